@@ -5,8 +5,9 @@
 
 The page has the definitions that `Means` and `Shows` of crates/acpidis/specs/Meaning.antt are made of, as they stand in
 the specs, each before what it is made of, and each type of the sources behind the definition that names it first.
-Definitions that share a comment stay together, in the order of their file. What only --any-run adds stands apart, cut off
-at the names of ADDED, and so does what PRINTED names. The head of the page is tests/meaning_words.md: each
+Definitions that share a comment stay together, in the order of their file. One that goes form by form through a type that
+holds itself (`node_step` of `Node-F`) is a table, which has the forms of the type too. What only --any-run adds stands
+apart, cut off at the names of ADDED, and so does what PRINTED names. The head of the page is tests/meaning_words.md: each
 word of the kit's library that the definitions name has to stand in its last table, and no other. Without --write the
 page is compared with docs/meaning.md. The last line is 'N passed, N failed'.
 """
@@ -28,7 +29,10 @@ PARTS = [
     ("What a name means", "aml_namespace: found arity_of namespace_of kind_at aml_names: candidates placed IsName spelling PathSet"),
     ("What a listing in memory shows", "acpidis: Shows"),
 ]
-ADDED = ("What `--any-run` adds", "aml_parse: ReadsTable aml_load: run_names table_front Front aml_namespace: agreed_path agreed_arity outlook_of")
+ADDED = (
+    "What `--any-run` adds",
+    "aml_parse: ReadsTable aml_load: run_names table_front Front sure_here sure_with aml_namespace: agreed_path agreed_arity outlook_of open_in",
+)
 PRINTED = ("What a run prints", "acpidis: Lists")
 # Types that are met only as the fault of a Result, which no Ok has: they stand in a part of their own.
 FAULTS = ("What a fault can be", ["TableFault", "Bad", "LoadFault", "CodeFault", "SpaceFault"])
@@ -38,6 +42,9 @@ ROWS_A_MINUTE = 40
 LEAST_ROWS = 3
 WORD = re.compile(r"(?<![\w.\-])(?:([A-Za-z]\w*)\.)?([^\W\d][\w\-×]*)(?![\w\-]*\s=\s)")
 SIGN = re.compile(r"(?<=\s)[^\w\s(){}\[\],.;:\"→λ×∀=|¬⊥_]+(?=\s|\)|$)|(?<=\s)(?:==|\|\|)(?=\s)|\[\]|\bif\b")
+# A line of a definition that goes through the forms of a type, and a form of the type with what is said of it
+STEP = re.compile(r"\w+ \(?(\w+)-F\.(\w+)[\w ]*\)? = (.*)")
+FORM = re.compile(r"((?:^    ///.*\n)*)^    ([A-Z]\w*)(?:( \{)\n((?:^        .*\n)*)^    \}|(.*)),$", re.MULTILINE)
 TYPE = re.compile(r"((?:^ *///.*\n|^#\[.*\n)*)^pub(?:\(crate\))? (?:struct|enum) (\w+)[^;{]*(?:\{\n(?:.*\n)*?\}|.*;)$", re.MULTILINE)
 
 
@@ -84,7 +91,12 @@ class Definition:
         self.names, self.forms = names_in(self.code)
         self.uses, self.types, self.kit = [], [], []
         rows = [line for line in self.code if re.match(r"\s+∷ ", line) or line.endswith(" ∷")]
-        self.rows = len(rows) if len(rows) >= LEAST_ROWS else 0
+        self.steps = [step for step in map(STEP.fullmatch, self.code[1:]) if step]
+        self.rows = len(self.steps) or (len(rows) if len(rows) >= LEAST_ROWS else 0)
+
+    def counted(self):
+        """Its lines that are no rows."""
+        return 0 if self.steps else len(self.code) - self.rows
 
 
 class Type:
@@ -96,6 +108,16 @@ class Type:
         self.code = [line for line in self.lines if not line.lstrip().startswith("//")]
         model = re.search(rf"^impl(?:<.*>)? Model for {self.name}\b.*?Value = \{{ (.*?) \}};", text, re.MULTILINE | re.DOTALL)
         self.seen = model and model[1]
+        self.stepped = False
+
+    def forms(self):
+        """Its forms by their names: each on one line, and what is said of it."""
+        forms = {}
+        for said, name, brace, fields, rest in FORM.findall("\n".join(self.lines)):
+            fields = " ".join(line.strip() for line in fields.split("\n")).strip().rstrip(",")
+            words = " ".join(line.strip().lstrip("/ ") for line in said.split("\n")).strip()
+            forms[name] = (f"{name} {{ {fields} }}" if brace else name + rest, words)
+        return forms
 
     def words(self):
         """The names of types in it, those of its own forms left out."""
@@ -145,6 +167,9 @@ class Sources:
         texts = {path: path.read_text() for path in sorted(TOP.glob("crates/*/src/**/*.rt"))}
         types = [Type(path, match, text) for path, text in texts.items() for match in TYPE.finditer(text)]
         self.types = {(it.crate, it.name): it for it in types}
+        for file in files:
+            for name in {step[1] for it in file.definitions for step in it.steps}:
+                self.types[file.crate, name].stepped = True
         for definition in [definition for file in files for definition in file.definitions]:
             self.resolve(definition)
 
@@ -244,7 +269,7 @@ class Page:
                 file = section[0]
                 self.lines += [f"### `{file.name}` of `{file.crate}`", ""]
             self.section(section[1], sections[section])
-        self.parts.append((title, self.known[-len(definitions) :], [it for it in self.shown[shown:] if not it.seen]))
+        self.parts.append((title, self.known[-len(definitions) :], [it for it in self.shown[shown:] if not it.seen and not it.stepped]))
 
     def fault_types(self):
         """The types of FAULTS, behind all that an Ok is made of."""
@@ -257,16 +282,33 @@ class Page:
         block, around = [*comment, ""], []
         self.known += definitions
         for definition in definitions:
-            block += [*(definition.around if definition.around != around else []), *definition.lines, ""]
+            if definition.steps:
+                self.block("antt", block)
+                self.steps(definition)
+                block = []
+            else:
+                block += [*(definition.around if definition.around != around else []), *definition.lines, ""]
             around = definition.around
             types = self.new_types(definition.types)
             if types:
                 self.block("antt", block)
-                self.block("rust", [line for it in types if not it.seen for line in [*it.lines, ""]])
+                self.block("rust", [line for it in types if not it.seen and not it.stepped for line in [*it.lines, ""]])
                 seen = [f"a `{it.name}` as `{it.seen}`" for it in types if it.seen]
                 self.lines += [f"Definitions see {', '.join(seen)}.", ""] if seen else []
                 block = []
         self.block("antt", block)
+
+    def steps(self, definition):
+        """A definition that goes through the forms of a type: a row for each, in one table with the definition in front."""
+        head = [line.lstrip("- ") for line in definition.lines if line.startswith("--")]
+        if self.lines[-2].startswith("| "):
+            self.lines.pop()
+        else:
+            self.lines += [*head, "", "| In memory | As data | What it is |", "|---|---|---|"]
+        for step in definition.steps:
+            form, words = self.sources.types[definition.file.crate, step[1]].forms()[step[2]]
+            self.lines += [f"| `{step[1]}::{form}` | `{step[3]}` | {words} |"]
+        self.lines += [""]
 
     def block(self, kind, lines):
         self.lines += [f"```{kind}", *lines[:-1], "```", ""] if lines else []
@@ -302,7 +344,7 @@ class Page:
 
 def counts_of(title, definitions, types):
     rows = sum(it.rows for it in definitions)
-    lines = sum(len(it.code) for it in definitions) - rows
+    lines = sum(it.counted() for it in definitions)
     kinds = sum(len(it.code) for it in types)
     minutes = round((lines + kinds) / LINES_A_MINUTE + rows / ROWS_A_MINUTE)
     return f"| {title} | {sum(len(it.names) for it in definitions)} | {lines} | {rows} | {kinds} | {minutes} |"

@@ -11,7 +11,8 @@ use Rattle.std.proofs.lemmas.Bool.Decides.{nat_tests}
 use Rattle.aml_names.specs.declared.segments.Seg.{Seg}
 use Rattle.aml_names.specs.declared.faults.CodeFault.{CodeFault}
 use Rattle.aml_names.specs.declared.faults.CodeFault.TheVariants as faults
-use Rattle.aml_names.specs.Names.{is_lead_char, is_name_char, IsNameSeg, AreNameSegs}
+use Rattle.aml_names.specs.Names.{is_lead_char, is_name_char, IsNameSeg}
+use Rattle.aml_names.proofs.NameLaws.{AreNameSegs}
 use Rattle.aml_names.specs.NameReading.{segment_at, Fails}
 use Rattle.aml_names.specs.Paths.{segment_text, path_text}
 use Rattle.aml_names.proofs.NameLaws.{segment_takes, segment_again}

@@ -2,9 +2,9 @@
 -- A line is a path as it is printed, a space and a digit from 0 to 7. The byte 0A ends a line; the last line may go
 -- without.
 use Rattle.std.specs.Prelude.{◌≡◌, ℕ, ◌+◌, ◌-◌, ◌<◌, ◌≤◌, List, [], ◌∷◌, ◌++◌, length, take}
-use Rattle.std.specs.List.{AllZip}
+use Rattle.std.specs.List.{AllByRecursion, AllZip}
 use Rattle.aml_names.specs.declared.segments.Seg.{Seg}
-use Rattle.aml_names.specs.Names.{IsNameSeg, AreNameSegs}
+use Rattle.aml_names.specs.Names.{IsNameSeg}
 use Rattle.aml_names.specs.Paths.{segment_text, path_text}
 use Rattle.acpi_folder.specs.declared.externals.ExternalsFault.{ExternalsFault}
 use Rattle.acpi_folder.specs.declared.externals.ExternalsFault.TheVariants.{BadLine}
@@ -17,7 +17,7 @@ Given = List Seg × ℕ
 -- A path that can be given: it isn't the root, and its segments are NameSegs.
 pub record IsBelowRoot (path : List Seg) : Type 0 where
   pub below : 0 < length path
-  pub segments : AreNameSegs path
+  pub segments : AllByRecursion (λ s. IsNameSeg s.0) path
 
 -- A line gives a path and a count of at most seven: it is the path as it is printed, a space and the digit.
 pub record Gives (line : List ℕ) (given : Given) : Type 0 where

@@ -6,9 +6,8 @@ pub use Rattle.acpi_tables.specs.Header.{HoldsAddresses, HoldsRoot, HoldsTable, 
 pub use Rattle.acpi_tables.specs.Header.{address_width, rsdp_of, table_of}
 unfoldable pub use Rattle.acpi_tables.specs.Header.{addresses_of}
 pub use Rattle.acpi_tables.specs.Order.{AreTables, AreTaken, IsChained, IsNamed, RefusesOrder, chain_of, dsdt_address}
-pub use Rattle.acpi_tables.specs.Order.{ending_digits, has_signature, is_dot, only_dsdt, ◌>>=◌}
-pub use Rattle.acpi_tables.specs.Order.{list_of, listed_by, listed_in, rank_cmp, signed_at, width_of, with_more}
-pub use Rattle.acpi_tables.specs.Order.{xsdt_address}
+pub use Rattle.acpi_tables.specs.Order.{has_signature, only_dsdt, ◌>>=◌}
+pub use Rattle.acpi_tables.specs.Order.{list_of, listed_by, rank_cmp, signed_at, with_more}
 unfoldable pub use Rattle.acpi_tables.specs.Order.{bytes_of, dump_at, ending_number, indexes_with, name_of}
 pub use Rattle.acpi_tables.specs.declared.dump.Dump.{Dump}
 pub use Rattle.std.proofs.Common.{Bool, Bor, IsPermutation, List, MatchBool, None, Option, Some, [], ap, append-nil}

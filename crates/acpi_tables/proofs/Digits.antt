@@ -4,7 +4,7 @@ use Rattle.acpi_tables.proofs.Common.{length, take, reverse, Some, None}
 use Rattle.acpi_tables.proofs.Common.{take_while, get_or, cond, ltb, refl, sym, ap, ◌∙◌, arith, ltb-false}
 use Rattle.acpi_tables.proofs.Common.{length-reverse, reverse-append, take_more}
 use Rattle.acpi_tables.proofs.Common.{take_while-cons, cond_some, nat_tests, before_last, position, position_or_len}
-use Rattle.acpi_tables.proofs.Common.{digits_value, ending_digits, is_dot}
+use Rattle.acpi_tables.proofs.Common.{digits_value, nat_eq}
 use Rattle.std.proofs.Math.Nat.{pow-suc, pow-le-pow_right, one-le-pow}
 use Rattle.std.proofs.lemmas.Int.Digits.{digits_value_push}
 use Rattle.std.proofs.Math.Seq.{take-length}
@@ -19,6 +19,10 @@ power_positive count = omega (arith, one-le-pow count 10 (omega arith))
 
 pub power_small : (count : ℕ) → count < 10 → 10 ^ count ≤ 1000000000
 power_small count h = let le : count ≤ 9 = omega arith in pow-le-pow_right {n = 10} (omega arith) le
+
+-- the last decimal digits of some bytes, at most so many
+abbrev ending_digits : ℕ → List ℕ → List ℕ
+ending_digits count bytes = reverse (take count (take_while is_ascii_digit (reverse bytes)))
 
 reverse_last : (bytes : List ℕ) → 0 < length bytes
     → reverse bytes ≡ get_or bytes (length bytes - 1) 0 ∷ reverse (take (length bytes - 1) bytes)
@@ -57,6 +61,9 @@ digits_value-digit bytes (suc n) more some low high =
 missing : (test : Bool) (index : ℕ) → cond test (Some index) None ≡ None → test ≡ false
 missing true index is = cc
 missing false index is = refl
+
+abbrev is_dot : ℕ → Bool
+is_dot c = nat_eq c 46
 
 module _ (name : List ℕ) where
   abbrev after : ℕ

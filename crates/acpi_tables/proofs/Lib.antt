@@ -6,8 +6,10 @@ pub mod Cuts
 pub mod Places
 pub mod Once
 pub mod Digits
+pub mod Taken
 pub mod Signed
 pub mod Chains
 pub mod Ranks
 pub mod Unique
 pub mod Blocks
+pub mod Refused

@@ -4,7 +4,10 @@ use Rattle.acpi_tables.proofs.Common.{◌≡◌, ℕ, ◌+◌, Bool, List, [], �
 use Rattle.acpi_tables.proofs.Common.{Some, None, sym, ap, ◌∙◌, zero-add}
 use Rattle.acpi_tables.proofs.Common.{list_any, cons_option, fold, range_with_len, filter_map-append}
 use Rattle.acpi_tables.proofs.Common.{map-range_with_len_more, fold-append, Dump}
-use Rattle.acpi_tables.proofs.Common.{with_more, dump_at, listed_in}
+use Rattle.acpi_tables.proofs.Common.{with_more, dump_at}
+
+abbrev pub listed_in : List Dump → List ℕ → List ℕ
+listed_in dumps addresses = fold with_more [] (filter_map (dump_at dumps) addresses)
 
 -- those of the values of a function
 module _ (dumps : List Dump) (f : ℕ → ℕ) (i : ℕ) (old : List ℕ) (kept : old ≡ listed_in dumps (map f (range_with_len 0 i))) where

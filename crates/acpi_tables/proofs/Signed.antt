@@ -1,31 +1,19 @@
--- What a signature tells of a dump: how it is read, since that comes out of a signature by computing, whatever follows
--- it; and so what holds of one that is taken. What a search for a signature or an address has found has the signature.
+-- What holds of a dump that is taken, by its signature. What a search for a signature or an address has found has the
+-- signature.
 use Rattle.acpi_tables.proofs.Common.{◌≡◌, ℕ, ◌<◌, ◌≤◌, ◌⊎◌, inl, inr, Bool, true, false, List, ◌++◌, length, drop}
 use Rattle.acpi_tables.proofs.Common.{codes, cond, Some, find, ltb, nat_eq}
-use Rattle.acpi_tables.proofs.Common.{refl, sym, ap, ◌∙◌, arith, rules, tests, length-append, Decides-eqb}
+use Rattle.acpi_tables.proofs.Common.{refl, sym, ap, ◌∙◌, arith, rules, tests, length-append}
 use Rattle.acpi_tables.proofs.Common.{passes_at_first, option_and_then_some, same_Some, then_some}
 use Rattle.acpi_tables.proofs.Common.{slice_get_within, get_or_from_slice_get, Dump, begins_with, HoldsTable, table_of}
 use Rattle.acpi_tables.proofs.Common.{HoldsRoot, HoldsAddresses}
-use Rattle.acpi_tables.proofs.Common.{AreTaken, bytes_of, has_signature, dump_at, signed_at, xsdt_address, list_of}
-use Rattle.acpi_tables.proofs.Common.{width_of, number_at}
-use Rattle.std.proofs.lemmas.Slice.Eq.{starts_is}
+use Rattle.acpi_tables.proofs.Common.{AreTaken, bytes_of, has_signature, dump_at, signed_at, list_of}
+use Rattle.acpi_tables.proofs.Common.{nat_le, number_at, ◌&&◌}
+use Rattle.std.specs.Prelude.{not}
+use Rattle.acpi_tables.specs.Header.{revision_of}
 use Rattle.std.proofs.lemmas.List.Folds.{find_at}
-use Rattle.acpi_tables.specs.declared.dump.Content.TheVariants.{Xsdt, Rsdt, Fadt, Other}
-use Rattle.acpi_tables.specs.declared.dump.Kind.{Kind}
-use Rattle.acpi_tables.specs.declared.dump.Kind.TheVariants.{Root, Standard}
-use Rattle.acpi_tables.specs.Dumps.{kind_of, HoldsShape, HoldsContent, most_bytes}
+use Rattle.acpi_tables.specs.Dumps.{HoldsDump, most_bytes}
+use Rattle.acpi_tables.proofs.Taken.{as-word, begins, is_bare}
 use Rattle.acpi_tables.proofs.Places.{part-past}
-
--- ---- words that bytes begin with
-
-begins : (bytes word : List ℕ) → begins_with bytes word ≡ true → bytes ≡ word ++ drop (length word) bytes
-unfolding begins_with
-begins bytes word e = (starts_is Decides-eqb bytes word (begins_with bytes word) refl).0 e
-
--- what comes out for a word, whatever follows it, comes out for bytes that begin with it
-as-word : {X : Type 0} (f : List ℕ → X) (x : X) (bytes word : List ℕ) → ((rest : List ℕ) → f (word ++ rest) ≡ x)
-    → begins_with bytes word ≡ true → f bytes ≡ x
-as-word f x bytes word all is = ap f (begins bytes word is) ∙ all (drop (length word) bytes)
 
 -- ---- what was found
 
@@ -56,10 +44,10 @@ signed_at-signed dumps word address index e =
 
 -- the list that a root leads to is an XSDT or an RSDT
 list_by : (dumps : List Dump) (root : List ℕ) (index : ℕ) (b : Bool)
-    → cond b (signed_at dumps (codes "RSDT") (number_at root 16 4)) (signed_at dumps (codes "XSDT") (xsdt_address root)) ≡ Some index
+    → cond b (signed_at dumps (codes "XSDT") (number_at root 24 8)) (signed_at dumps (codes "RSDT") (number_at root 16 4)) ≡ Some index
     → (has_signature dumps (codes "XSDT") index ≡ true) ⊎ (has_signature dumps (codes "RSDT") index ≡ true)
-list_by dumps root index true e = inr (signed_at-signed dumps (codes "RSDT") (number_at root 16 4) index e)
-list_by dumps root index false e = inl (signed_at-signed dumps (codes "XSDT") (xsdt_address root) index e)
+list_by dumps root index true e = inl (signed_at-signed dumps (codes "XSDT") (number_at root 24 8) index e)
+list_by dumps root index false e = inr (signed_at-signed dumps (codes "RSDT") (number_at root 16 4) index e)
 
 -- what a search found passes
 pub find-passes : (test : ℕ → Bool) (xs : List ℕ) (x : ℕ) → find test xs ≡ Some x → test x ≡ true
@@ -70,44 +58,55 @@ find-passes test xs x e =
 -- ---- what holds of a dump that is taken, by its signature
 
 module _ (dumps : List Dump) (any_sum : Bool) (each : AreTaken dumps any_sum) (index : ℕ) where
-  held : (word : List ℕ) (kind : Kind) → 0 < length word → ((rest : List ℕ) → kind_of (word ++ rest) ≡ kind)
+  held : (word : List ℕ) → 0 < length word → has_signature dumps word index ≡ true → HoldsDump any_sum (bytes_of dumps index)
+  held word some is = each index (signed_inside dumps word index some is)
+
+  -- a dump with the header, if the bytes of its signature are no other's
+  tabled : (word : List ℕ) → 0 < length word → ((rest : List ℕ) → is_bare (word ++ rest) ≡ false)
       → has_signature dumps word index ≡ true
-      → HoldsShape kind (bytes_of dumps index) × HoldsContent kind (bytes_of dumps index) × (length (bytes_of dumps index) ≤ most_bytes)
-  held word kind some all is =
-      let holds = each index (signed_inside dumps word index some is) in
-      let same = as-word kind_of kind (bytes_of dumps index) word all is in
-      (rw same at holds.shape, rw same at holds.content, holds.small)
+      → HoldsTable (bytes_of dumps index) × (length (bytes_of dumps index) ≤ most_bytes)
+  tabled word some all is =
+      let holds = held word some is in
+      ((holds.table (as-word is_bare false (bytes_of dumps index) word all is)).0, holds.small)
 
   pub root_holds : has_signature dumps (codes "RSD PTR ") index ≡ true → HoldsRoot (bytes_of dumps index)
-  unfolding begins_with
-  root_holds is = (held (codes "RSD PTR ") Root (omega arith) (λ rest. refl) is).0
+  root_holds is = ((held (codes "RSD PTR ") (omega arith) is).root is).0
 
   pub dsdt_holds : has_signature dumps (codes "DSDT") index ≡ true
       → HoldsTable (bytes_of dumps index) × (length (bytes_of dumps index) ≤ most_bytes)
   unfolding begins_with
-  dsdt_holds is = let h = held (codes "DSDT") (Standard Other) (omega arith) (λ rest. refl) is in (h.0, h.2)
+  dsdt_holds is = tabled (codes "DSDT") (omega arith) (λ rest. refl) is
 
   pub ssdt_holds : has_signature dumps (codes "SSDT") index ≡ true
       → HoldsTable (bytes_of dumps index) × (length (bytes_of dumps index) ≤ most_bytes)
   unfolding begins_with
-  ssdt_holds is = let h = held (codes "SSDT") (Standard Other) (omega arith) (λ rest. refl) is in (h.0, h.2)
+  ssdt_holds is = tabled (codes "SSDT") (omega arith) (λ rest. refl) is
 
   pub fadt_holds : has_signature dumps (codes "FACP") index ≡ true
       → HoldsTable (bytes_of dumps index) × (116 ≤ length (table_of (bytes_of dumps index)))
   unfolding begins_with
-  fadt_holds is = let h = held (codes "FACP") (Standard Fadt) (omega arith) (λ rest. refl) is in (h.0, h.1)
+  fadt_holds is =
+      ((tabled (codes "FACP") (omega arith) (λ rest. refl) is).0, (held (codes "FACP") (omega arith) is).fadt is)
+
+  -- how many bytes an address has in a list
+  abbrev width_of : List ℕ → ℕ
+  width_of list = cond (begins_with list (codes "XSDT")) 8 4
 
   abbrev HoldsList : Type 0
-  HoldsList = HoldsTable (bytes_of dumps index) × HoldsAddresses (width_of (bytes_of dumps index)) (table_of (bytes_of dumps index))
+  HoldsList = HoldsTable (bytes_of dumps index)
+      × HoldsAddresses (width_of (bytes_of dumps index)) (table_of (bytes_of dumps index))
 
   listing : (has_signature dumps (codes "XSDT") index ≡ true) ⊎ (has_signature dumps (codes "RSDT") index ≡ true)
       → HoldsList
   unfolding begins_with
-  listing (inl is) = let h = held (codes "XSDT") (Standard Xsdt) (omega arith) (λ rest. refl) is in (h.0, rw is h.1)
+  listing (inl is) =
+      ((tabled (codes "XSDT") (omega arith) (λ rest. refl) is).0, rw is ((held (codes "XSDT") (omega arith) is).xsdt is))
   listing (inr is) =
-      let h = held (codes "RSDT") (Standard Rsdt) (omega arith) (λ rest. refl) is in
-      (h.0, rw (as-word width_of 4 (bytes_of dumps index) (codes "RSDT") (λ rest. refl) is) h.1)
+      let holds = (held (codes "RSDT") (omega arith) is).rsdt is in (
+        (tabled (codes "RSDT") (omega arith) (λ rest. refl) is).0,
+        rw (as-word width_of 4 (bytes_of dumps index) (codes "RSDT") (λ rest. refl) is) holds,
+      )
 
   -- the list that a root leads to
   pub list_holds : (root : List ℕ) → list_of dumps root ≡ Some index → HoldsList
-  list_holds root leads = listing (list_by dumps root index (nat_eq (xsdt_address root) 0) leads)
+  list_holds root leads = listing (list_by dumps root index (nat_le 2 (revision_of root) && not (nat_eq (number_at root 24 8) 0)) leads)

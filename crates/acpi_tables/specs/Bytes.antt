@@ -17,7 +17,7 @@ little_endian (byte ∷ bytes) = byte + 256 * little_endian bytes
 abbrev pub bytes_at : List ℕ → ℕ → ℕ → List ℕ
 bytes_at table offset width = take width (drop offset table)
 
--- the same as a number
+-- the number that the field of so many bytes at this offset spells
 unfoldable pub number_at : List ℕ → ℕ → ℕ → ℕ
 number_at table offset width = little_endian (bytes_at table offset width)
 

@@ -1,5 +1,6 @@
 -- Dumps of tables, one at a time: which of them are taken, and what each refusal says of the bytes.
-use Rattle.std.specs.Prelude.{◌≡◌, ℕ, ◌<◌, ◌≤◌, ◌⊎◌, ⊤, Bool, true, false, List, codes, length, nat_eq, if◌then◌else◌}
+use Rattle.std.specs.Prelude.{◌≡◌, ℕ, ◌<◌, ◌≤◌, ◌⊎◌, ◌||◌, ⊤, Bool, true, false, List, codes, length, nat_eq}
+use Rattle.std.specs.Prelude.{if◌then◌else◌}
 use Rattle.acpi_tables.specs.Bytes.{begins_with, checksum, HasLength}
 use Rattle.acpi_tables.specs.Header.{table_of, HoldsRoot, root_sums, HoldsAddresses}
 use Rattle.acpi_tables.specs.Madt.{HoldsMadt, RefusesMadt}
@@ -9,6 +10,22 @@ use Rattle.acpi_tables.specs.declared.dump.Kind.{Kind}
 use Rattle.acpi_tables.specs.declared.dump.Kind.TheVariants.{Root, Facs, Standard}
 use Rattle.acpi_tables.specs.declared.faults.Bad.{Bad}
 use Rattle.acpi_tables.specs.declared.faults.Bad.TheVariants.{TooLarge, Short, BadSum, BadRoot, FadtShort}
+
+-- A dump that is taken, by its signature: a pointer; a FACS (ACPI 6.5, section 5.2.10), which has no standard header
+-- and no checksum; or a table with the header. Of four tables what is read behind it can be read, of a FADT the fields
+-- up to Flags, which are those of ACPI 1.0. `any_sum` takes any checksum.
+pub record HoldsDump (any_sum : Bool) (bytes : List ℕ) : Type 0 where
+  pub small : length bytes ≤ 16777216
+  pub root : begins_with bytes (codes "RSD PTR ") ≡ true → HoldsRoot bytes × (any_sum ≡ false → root_sums bytes ≡ true)
+  pub facs : begins_with bytes (codes "FACS") ≡ true → HasLength bytes 4 8
+  pub table : (begins_with bytes (codes "RSD PTR ") || begins_with bytes (codes "FACS")) ≡ false
+      → HasLength bytes 4 36 × (any_sum ≡ false → checksum (table_of bytes) ≡ 0)
+  pub xsdt : begins_with bytes (codes "XSDT") ≡ true → HoldsAddresses 8 (table_of bytes)
+  pub rsdt : begins_with bytes (codes "RSDT") ≡ true → HoldsAddresses 4 (table_of bytes)
+  pub fadt : begins_with bytes (codes "FACP") ≡ true → 116 ≤ length (table_of bytes)
+  pub madt : begins_with bytes (codes "APIC") ≡ true → HoldsMadt (table_of bytes)
+
+-- ---- A dump as the code takes it, by the kind that its signature tells: the same (`taken` and `by_kind`, proved).
 
 -- What is read of a table behind its standard header, by its signature.
 abbrev pub content_of : List ℕ → Content
@@ -44,16 +61,11 @@ HoldsContent (Standard Fadt) bytes = 116 ≤ length (table_of bytes)
 HoldsContent (Standard Madt) bytes = HoldsMadt (table_of bytes)
 HoldsContent _ bytes = ⊤
 
+-- ---- Why a dump is refused.
+
 -- the greatest number of bytes of a dump
 abbrev pub most_bytes : ℕ
 most_bytes = 16777216
-
--- A dump that is taken. `any_sum` takes any checksum.
-pub record HoldsDump (any_sum : Bool) (bytes : List ℕ) : Type 0 where
-  pub small : length bytes ≤ most_bytes
-  pub shape : HoldsShape (kind_of bytes) bytes
-  pub sums : any_sum ≡ false → sums_hold (kind_of bytes) bytes ≡ true
-  pub content : HoldsContent (kind_of bytes) bytes
 
 -- What is wrong with a dump whose shape doesn't hold.
 abbrev pub shape_fault : Kind → Bad

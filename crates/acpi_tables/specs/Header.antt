@@ -67,6 +67,7 @@ address_in width table index =
 
 -- ---- The Root System Description Pointer (ACPI 6.5, section 5.2.5.3, table 5.3).
 
+-- the revision of a pointer
 abbrev pub revision_of : List ℕ → ℕ
 revision_of bytes = number_at bytes 15 1
 

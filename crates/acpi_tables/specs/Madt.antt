@@ -4,7 +4,7 @@
 use Prim.Native.String.{String}
 use Rattle.std.specs.Prelude.{◌≡◌, ℕ, zero, suc, ◌+◌, ◌<◌, ◌≤◌, ◌&&◌, Bool, List, [], ◌∷◌, codes, length}
 use Rattle.std.specs.Prelude.{take, drop, map, find, nat_eq, nat_le, Option, Some, None, if◌then◌else◌}
-use Rattle.std.specs.List.{All, concat}
+use Rattle.std.specs.List.{All, AllByRecursion, concat}
 use Rattle.acpi_tables.specs.Bytes.{bytes_at, number_at, Field, dec, hex, field_view, values_of, IsNarrow}
 use Rattle.acpi_tables.specs.declared.faults.Bad.{Bad}
 use Rattle.acpi_tables.specs.declared.faults.Bad.TheVariants.{Short, MadtRecord as BadRecord}
@@ -70,6 +70,19 @@ abbrev pub said : {C : Type 0} → (C → List ℕ) → MadtRecord C → Said
 said see (records.Known row values) = Known row.now.name.now (take (length row.now.fields.now) values)
 said see (records.Other kind content) = Unknown kind (see content)
 
+-- a record: its second byte says how many bytes it has, at least two
+abbrev pub IsRecord : List ℕ → Type 0
+IsRecord bytes = (2 ≤ length bytes) × (number_at bytes 1 1 ≡ length bytes)
+
+-- a table whose bytes from 44 on are records, one behind the other
+pub record HoldsMadt (table : List ℕ) : Type 0 where
+  pub header : 44 ≤ length table
+  pub records : List (List ℕ)
+  pub cut : concat records ≡ drop 44 table
+  pub each : AllByRecursion IsRecord records
+
+-- ---- The records, one after the other: in a table that is taken the same (`records_are`, proved).
+
 -- the bytes of the record at this offset, by its second byte, and the offset behind it
 abbrev pub record_bytes_at : List ℕ → ℕ → List ℕ
 record_bytes_at table at = bytes_at table at (number_at table (at + 1) 1)
@@ -93,14 +106,9 @@ records_from zero table at = []
 records_from (suc n) table at =
     if is_whole table at then record_bytes_at table at ∷ records_from n table (record_end table at) else []
 
--- those of a MADT
+-- the records of a MADT
 abbrev pub records_of : List ℕ → List (List ℕ)
 records_of table = records_from (length table) table 44
-
--- a table whose bytes from 44 on are whole records
-pub record HoldsMadt (table : List ℕ) : Type 0 where
-  pub header : 44 ≤ length table
-  pub whole : 44 + length (concat (records_of table)) ≡ length table
 
 -- whole records stand up to this offset, and a broken one begins there
 pub record BreaksAt (table : List ℕ) (at : ℕ) : Type 0 where

@@ -19,10 +19,11 @@ use Rattle.acpi_tables.specs.declared.faults.Bad.{Bad}
 use Rattle.acpi_tables.specs.declared.faults.Bad.TheVariants.{TooManyTables, RootMissing, FadtMissing, NoDsdt, TwoDsdts}
 use Rattle.acpi_tables.specs.declared.faults.TableFault.{TableFault}
 
--- the bytes of the dump at an index, and its name
+-- the bytes of the dump at an index
 unfoldable pub bytes_of : List Dump → ℕ → List ℕ
 bytes_of dumps index = slice_index_or (map (λ dump. dump.bytes.items) dumps) index []
 
+-- the name of the dump at an index, as bytes
 unfoldable pub name_of : List Dump → ℕ → List ℕ
 name_of dumps index = slice_index_or (map (λ dump. string_bytes dump.name) dumps) index []
 
@@ -30,28 +31,17 @@ name_of dumps index = slice_index_or (map (λ dump. string_bytes dump.name) dump
 abbrev pub has_signature : List Dump → List ℕ → ℕ → Bool
 has_signature dumps signature index = begins_with (bytes_of dumps index) signature
 
--- the indexes of the dumps that have a signature
-abbrev pub indexes_with : List Dump → List ℕ → List ℕ
-indexes_with dumps signature = filter (has_signature dumps signature) (range_with_len 0 (length dumps))
-
 -- Where no dump has an address, the names decide.
 
 -- The stem of a file's name: what stands before its last dot, or the whole name if there is none or it stands first.
-abbrev pub is_dot : ℕ → Bool
-is_dot c = nat_eq c 46
-
 abbrev pub stem_of : List ℕ → List ℕ
-stem_of name = if nat_eq (length (before_last is_dot name)) 0 then name else before_last is_dot name
+stem_of name = let stem = before_last (λ c. nat_eq c 46) name in if nat_eq (length stem) 0 then name else stem
 
--- the last decimal digits of some bytes, at most so many
-abbrev pub ending_digits : ℕ → List ℕ → List ℕ
-ending_digits count bytes = reverse (take count (take_while is_ascii_digit (reverse bytes)))
-
--- the number that ends the stem, of whose digits the last nine count
+-- the number that ends the stem of a file's name, of whose digits the last nine count
 abbrev pub ending_number : List ℕ → ℕ
-ending_number name = digits_value 10 (ending_digits 9 (stem_of name))
+ending_number name = digits_value 10 (reverse (take 9 (take_while is_ascii_digit (reverse (stem_of name)))))
 
--- dumps by that number, then by their names as bytes, then by their indexes
+-- dumps by the number that ends the stem, then by their names as bytes, then by their indexes
 abbrev pub rank_cmp : List Dump → ℕ → ℕ → Ordering
 rank_cmp dumps =
     then_cmp (on (λ index. ending_number (name_of dumps index)) nat_cmp)
@@ -59,12 +49,13 @@ rank_cmp dumps =
 
 -- The DSDT is the only one, and the SSDTs are all of them, each once, sorted.
 pub record IsNamed (dumps : List Dump) (dsdt : ℕ) (ssdts : List ℕ) : Type 0 where
-  pub only : indexes_with dumps (codes "DSDT") ≡ dsdt ∷ []
-  pub all : IsPermutation (indexes_with dumps (codes "SSDT")) ssdts
+  pub only : filter (has_signature dumps (codes "DSDT")) (range_with_len 0 (length dumps)) ≡ dsdt ∷ []
+  pub all : IsPermutation (filter (has_signature dumps (codes "SSDT")) (range_with_len 0 (length dumps))) ssdts
   pub sorted : IsSorted (rank_cmp dumps) ssdts
 
 -- Where a dump has an address, the chain from the RSDP decides (sections 5.2.5, 5.2.7, 5.2.8 and 5.2.9).
 
+-- whether a dump has an address
 abbrev pub is_addressed : List Dump → Bool
 is_addressed dumps = list_any (λ dump. is_some dump.address) dumps
 
@@ -77,32 +68,21 @@ abbrev pub signed_at : List Dump → List ℕ → ℕ → Option ℕ
 signed_at dumps signature address =
     option_and_then (λ index. then_some (has_signature dumps signature index) index) (dump_at dumps address)
 
--- the XSDT's address that an RSDP gives (section 5.2.5.3), from revision 2 on, and 0 where it gives none
-abbrev pub xsdt_address : List ℕ → ℕ
-xsdt_address root = if nat_le 2 (revision_of root) then number_at root 24 8 else 0
-
--- the list of the tables that an RSDP leads to: the XSDT where it gives that address, else the RSDT
+-- the list of the tables that an RSDP leads to (section 5.2.5.3): from revision 2 on the XSDT, where its address isn't
+-- 0, else the RSDT
 abbrev pub list_of : List Dump → List ℕ → Option ℕ
 list_of dumps root =
-    if nat_eq (xsdt_address root) 0 then signed_at dumps (codes "RSDT") (number_at root 16 4)
-    else signed_at dumps (codes "XSDT") (xsdt_address root)
-
--- how many bytes an address has in such a list
-abbrev pub width_of : List ℕ → ℕ
-width_of list = if begins_with list (codes "XSDT") then 8 else 4
+    if nat_le 2 (revision_of root) && not (nat_eq (number_at root 24 8) 0)
+    then signed_at dumps (codes "XSDT") (number_at root 24 8) else signed_at dumps (codes "RSDT") (number_at root 16 4)
 
 -- one number more, unless it is there already
 abbrev pub with_more : List ℕ → ℕ → List ℕ
 with_more xs x = if list_any (λ y. nat_eq y x) xs then xs else xs ++ x ∷ []
 
--- the dumps at some addresses, each where it stands first; an address with no dump is skipped
-abbrev pub listed_in : List Dump → List ℕ → List ℕ
-listed_in dumps addresses = fold with_more [] (filter_map (dump_at dumps) addresses)
-
--- those that a list gives, in its order
+-- The dumps that a list gives, in its order, each where it stands first. An address with no dump is skipped.
 abbrev pub listed_by : List Dump → ℕ → List ℕ
-listed_by dumps list =
-    listed_in dumps (addresses_of (width_of (bytes_of dumps list)) (table_of (bytes_of dumps list)))
+listed_by dumps list = fold with_more [] (filter_map (dump_at dumps)
+    (addresses_of (if has_signature dumps (codes "XSDT") list then 8 else 4) (table_of (bytes_of dumps list))))
 
 -- the DSDT's address in a FADT: X_DSDT where the table reaches to its end and it isn't 0, else DSDT
 abbrev pub dsdt_address : List ℕ → ℕ
@@ -122,19 +102,22 @@ pub record IsChained (dumps : List Dump) (dsdt : ℕ) (ssdts : List ℕ) : Type 
   pub gives : signed_at dumps (codes "DSDT") (dsdt_address (table_of (bytes_of dumps fadt))) ≡ Some dsdt
   pub all : filter (has_signature dumps (codes "SSDT")) (listed_by dumps list) ≡ ssdts
 
--- Each dump is taken by itself.
+-- The order of the definition blocks, of dumps that are each taken by itself. There is at most one, and none where a
+-- refusal stands.
+pub record IsOrder (dumps : List Dump) (any_sum : Bool) (dsdt : ℕ) (ssdts : List ℕ) : Type 0 where
+  pub few : length dumps ≤ 512
+  pub each : (index : ℕ) → index < length dumps → HoldsDump any_sum (bytes_of dumps index)
+  pub blocks : MatchBool (is_addressed dumps) (IsChained dumps dsdt ssdts) (IsNamed dumps dsdt ssdts)
+
+-- ---- Parts of these, as the code asks them.
+
+-- the indexes of the dumps that have a signature
+abbrev pub indexes_with : List Dump → List ℕ → List ℕ
+indexes_with dumps signature = filter (has_signature dumps signature) (range_with_len 0 (length dumps))
+
+-- each dump is taken by itself
 abbrev pub AreTaken : List Dump → Bool → Type 0
 AreTaken dumps any_sum = (index : ℕ) → index < length dumps → HoldsDump any_sum (bytes_of dumps index)
-
--- the greatest number of dumps
-abbrev pub most_dumps : ℕ
-most_dumps = 512
-
--- The order of the definition blocks. There is at most one, and none where a refusal stands.
-pub record IsOrder (dumps : List Dump) (any_sum : Bool) (dsdt : ℕ) (ssdts : List ℕ) : Type 0 where
-  pub few : length dumps ≤ most_dumps
-  pub each : AreTaken dumps any_sum
-  pub blocks : MatchBool (is_addressed dumps) (IsChained dumps dsdt ssdts) (IsNamed dumps dsdt ssdts)
 
 -- Each of the dumps at these indexes is a table with its header, of no more bytes than a dump may have.
 abbrev pub AreTables : List Dump → List ℕ → Type 0
@@ -143,6 +126,10 @@ AreTables dumps (index ∷ indexes) =
     HoldsTable (bytes_of dumps index) × (length (bytes_of dumps index) ≤ most_bytes) × AreTables dumps indexes
 
 -- ---- Why dumps are refused.
+
+-- the greatest number of dumps
+abbrev pub most_dumps : ℕ
+most_dumps = 512
 
 -- for `do`: what follows an Ok
 infixl 10 ◌>>=◌

@@ -1,12 +1,13 @@
 //! The order of the definition blocks where addresses lead from the RSDP over the XSDT or RSDT and the FADT to a DSDT.
 ghost use Rattle.std.specs.Prelude.{◌≡◌, ◌⊎◌, ◌<◌, ◌≤◌, None, Err, true, codes, filter, find, length, IfOk, IfErr};
-ghost use Rattle.std.specs.List.{range_with_len};
+ghost use Rattle.std.specs.Prelude.{◌∷◌, [], filter_map, if◌then◌else◌};
+ghost use Rattle.std.specs.List.{fold, range_with_len};
 ghost use Rattle.std.specs.Option.{option_map, unwrap_or};
 ghost use Rattle.acpi_tables.specs.Header.{HoldsRoot, HoldsTable, table_of, HoldsAddresses};
 ghost use Rattle.acpi_tables.specs.Header.{address_width, addresses_of};
 ghost use Rattle.acpi_tables.specs.Order.{AreTaken, IsChained, bytes_of, chain_of, dump_at, signed_at};
-ghost use Rattle.acpi_tables.specs.Order.{list_of, width_of, listed_by, dsdt_address};
-ghost use Rattle.acpi_tables.specs.Order.{listed_in, has_signature};
+ghost use Rattle.acpi_tables.specs.Order.{list_of, with_more, listed_by, dsdt_address, has_signature};
+ghost use Rattle.acpi_tables.specs.Bytes.{begins_with};
 ghost use Rattle.acpi_tables.specs.declared.faults.Bad.TheVariants.{NoMemory};
 
 use crate::addresses::{AddressWidth, address_at, address_count};
@@ -75,7 +76,8 @@ fn signed_at(dumps: &[Dump], signature: &[u8], address: u64) -> Option<usize>
 /// The dumps that an XSDT or an RSDT lists, in its order, each where it stands first.
 fn listed_by(alloc: Global, dumps: &[Dump], list: usize) -> Result<Vec<usize>, AllocError>
     requires table { HoldsTable (bytes_of dumps.now list) }
-    requires holds { HoldsAddresses (width_of (bytes_of dumps.now list)) (table_of (bytes_of dumps.now list)) }
+    requires holds { HoldsAddresses (if has_signature dumps.now (codes "XSDT") list then 8 else 4)
+        (table_of (bytes_of dumps.now list)) }
     ensures { IfOk result (λ listed. listed.items ≡ listed_by dumps.now list) }
 {
     let bytes = bytes_of(dumps, list);
@@ -84,7 +86,7 @@ fn listed_by(alloc: Global, dumps: &[Dump], list: usize) -> Result<Vec<usize>, A
 
 /// How many bytes an address has in a list with this signature.
 fn width_of(list: &[u8]) -> AddressWidth
-    ensures { address_width result ≡ width_of list.now }
+    ensures { address_width result ≡ (if begins_with list.now (codes "XSDT") then 8 else 4) }
 {
     if begins_with(list, &XSDT) {
         AddressWidth::Eight
@@ -101,7 +103,8 @@ fn listed_in(
     width: AddressWidth,
 ) -> Result<Vec<usize>, AllocError>
     requires holds { HoldsAddresses (address_width width) table.now }
-    ensures { IfOk result (λ v. v.items ≡ listed_in dumps.now (addresses_of (address_width width) table.now)) }
+    ensures { IfOk result (λ v. v.items
+        ≡ fold with_more [] (filter_map (dump_at dumps.now) (addresses_of (address_width width) table.now))) }
 {
     let mut listed = Vec::new(alloc);
     for index in 0..address_count(table, width) {

@@ -1,10 +1,11 @@
 //! The order of the definition blocks where no addresses are known, and the names of the files decide.
 ghost use Rattle.std.specs.Prelude.{◌≡◌, ◌⊎◌, ◌<◌, ◌^◌, None, Err, codes, IfOk, IfErr, IfSome};
-ghost use Rattle.std.specs.Prelude.{IsPermutation, IsSorted, length, position, reverse};
+ghost use Rattle.std.specs.Prelude.{IsPermutation, IsSorted, length, nat_eq, position, reverse, take, take_while};
+ghost use Rattle.std.specs.Char.{is_ascii_digit};
 ghost use Rattle.std.specs.List.{before_last};
 ghost use Rattle.std.specs.Str.Parse.{digits_value};
 ghost use Rattle.acpi_tables.specs.Order.{IsNamed, only_dsdt, indexes_with, name_of, rank_cmp};
-ghost use Rattle.acpi_tables.specs.Order.{is_dot, stem_of, ending_number, ending_digits};
+ghost use Rattle.acpi_tables.specs.Order.{stem_of, ending_number};
 ghost use Rattle.acpi_tables.specs.declared.faults.Bad.TheVariants.{NoMemory};
 
 use crate::dump::Dump;
@@ -70,7 +71,7 @@ fn stem_of(name: &[u8]) -> &[u8]
 
 /// What stands before the last dot, and nothing if there is none.
 fn before_last_dot(name: &[u8]) -> &[u8]
-    ensures { result.now ≡ before_last is_dot name.now }
+    ensures { result.now ≡ before_last (λ c. nat_eq c 46) name.now }
 {
     match after_last_dot(name) {
         Some(after) => &name[..name.len() - after - 1],
@@ -80,7 +81,7 @@ fn before_last_dot(name: &[u8]) -> &[u8]
 
 /// How many bytes stand after the last dot.
 fn after_last_dot(name: &[u8]) -> Option<usize>
-    ensures after { result ≡ position is_dot (reverse name.now) }
+    ensures after { result ≡ position (λ c. nat_eq c 46) (reverse name.now) }
     ensures inside { IfSome result (λ after. after < length name.now) }
 {
     name.iter().rev().position(|byte| *byte == b'.')
@@ -90,7 +91,8 @@ fn after_last_dot(name: &[u8]) -> Option<usize>
 fn ending_digits(bytes: &[u8], count: u8) -> u32
     requires { count < 10 }
     ensures bound { result < 10 ^ count }
-    ensures value { result ≡ digits_value 10 (ending_digits count bytes.now) }
+    ensures value { result
+        ≡ digits_value 10 (reverse (take count (take_while is_ascii_digit (reverse bytes.now)))) }
 {
     if count == 0 {
         return 0;

@@ -4,7 +4,7 @@ pub use Rattle.acpi_tables.specs.Order.{IsOrder, AreTables, bytes_of}
 pub use Rattle.acpi_tables.specs.declared.dump.Dump.{Dump}
 pub use Rattle.acpi_tables.specs.declared.order.Order.{Order}
 pub use Rattle.acpidis.specs.Bodies.{IsEntry, Became, Reading, reading_of, entry_of, ReadsIn, AreReadings, AreBodies}
-pub use Rattle.acpidis.specs.Bodies.{has_raw, codes_in, aml_of}
+pub use Rattle.acpidis.specs.Bodies.{has_raw, codes_in}
 pub use Rattle.acpidis.specs.Checks.{mark_of, marks_of, IsKept, AreKept, AreKeptOf, IsSame, has_fault, tried_mark}
 pub use Rattle.acpidis.specs.Checks.{tried_marks, marks_in, IsUnder, Under, added}
 pub use Rattle.acpidis.specs.Checks.{uncounted, tally, tallied, checks_with, check_lines, all_same, same_bytes}

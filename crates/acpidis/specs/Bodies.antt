@@ -23,13 +23,9 @@ use Rattle.asl_text.specs.declared.bodies.Body.TheVariants as bodies
 use Rattle.asl_text.specs.Texts.{OneBody, read, raw}
 use Rattle.acpidis.specs.declared.bodies.Unread.{Unread}
 
--- the AML of a definition block: what follows the 36 bytes of its header (ACPI 6.5, 5.2.11.1)
-abbrev pub aml_of : List ℕ → List ℕ
-aml_of bytes = drop 36 (table_of bytes)
-
--- the AML of the dumps at these indexes
+-- the AML of the definition blocks at these indexes: what follows the 36 bytes of a header (ACPI 6.5, 5.2.11.1)
 abbrev pub codes_in : List Dump → List ℕ → List (List ℕ)
-codes_in dumps order = map (λ index. aml_of (bytes_of dumps index)) order
+codes_in dumps order = map (λ index. drop 36 (table_of (bytes_of dumps index))) order
 
 -- what a listing has of a method: the terms that its body reads as, or its bytes, where the body reads as no terms
 abbrev pub IsEntry : Bool → List Entry → List (List ℕ) → Method → OneBody → Type 0

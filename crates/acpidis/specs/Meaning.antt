@@ -31,26 +31,16 @@ pub record Meaning : Type 0 where
   pub listed : Listed
   pub bodies : List OneBody
 
--- the indexes of the definition blocks, and their AML
-abbrev pub order_of : Meaning → List ℕ
-order_of k = k.dsdt ∷ k.ssdts
-
+-- the AML of the definition blocks
 abbrev pub codes_of : List Dump → Meaning → List (List ℕ)
-codes_of dumps k = codes_in dumps (order_of k)
+codes_of dumps k = codes_in dumps (k.dsdt ∷ k.ssdts)
 
--- whether a name outside the methods whose count nothing tells takes none
-abbrev pub none_unknown : Options → Bool
-none_unknown options = options.any_run && options.unknown_zero
-
--- The tables' AML reads as these trees, which load to these entries, with these options.
-abbrev pub LoadsBy : Options → List (List ℕ) → List Trees → Listed → Type 0
-LoadsBy options codes trees m = LoadsTo options.any_run (none_unknown options) options.externals.items codes trees m
-
--- The dumps have this order, and the AML of its tables loads to these trees and entries. Nothing is said of the bodies
--- of methods.
+-- The dumps have this order, and the AML of its tables reads as these trees, which load to these entries. Nothing is
+-- said of the bodies of methods. A name outside them whose count nothing tells takes none only with both options.
 pub record LoadsSet (dumps : List Dump) (options : Options) (k : Meaning) : Type 0 where
   pub order : IsOrder dumps options.any_sum k.dsdt k.ssdts
-  pub loads : LoadsBy options (codes_of dumps k) k.trees k.listed
+  pub loads : LoadsTo options.any_run (options.any_run && options.unknown_zero) options.externals.items
+      (codes_of dumps k) k.trees k.listed
 
 -- The dumps mean this listing, with these options: they load to it, and each body is the terms that it reads as in the
 -- namespace of all entries, or raw, where it reads as no terms.
@@ -58,6 +48,18 @@ pub record Means (dumps : List Dump) (options : Options) (k : Meaning) : Type 0 
   pub set : LoadsSet dumps options k
   pub bodies : AllZip (IsEntry options.unknown_zero k.listed.entries (codes_of dumps k)) (methods_of k.listed.entries)
       k.bodies
+
+-- whether a name outside the methods whose count nothing tells takes none
+abbrev pub none_unknown : Options → Bool
+none_unknown options = options.any_run && options.unknown_zero
+
+-- what `LoadsSet` says of the tables' AML
+abbrev pub LoadsBy : Options → List (List ℕ) → List Trees → Listed → Type 0
+LoadsBy options codes trees m = LoadsTo options.any_run (none_unknown options) options.externals.items codes trees m
+
+-- the indexes of the definition blocks
+abbrev pub order_of : Meaning → List ℕ
+order_of k = k.dsdt ∷ k.ssdts
 
 -- the rows of the namespace: the declared paths in order, each once, with what its declarations say
 abbrev pub rows_of : List Entry → List (List Seg × Declared)
@@ -75,7 +77,7 @@ pub record HoldsSet (order : Order) (loaded : Loaded) (dumps : List Dump) (k : M
   pub ssdts : order.ssdts.items ≡ k.ssdts
   pub holds : HoldsLoad loaded (codes_of dumps k) k.trees k.listed
 
--- it is this listing
+-- a listing in memory is this one, of these dumps
 pub record Shows (x : Listing) (dumps : List Dump) (k : Meaning) : Type 0 where
   pub same_dumps : x.dumps.now ≡ dumps
   pub set : HoldsSet x.order x.loaded dumps k

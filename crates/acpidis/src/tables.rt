@@ -1,11 +1,11 @@
 //! The tables of a set, before they are read.
-ghost use Rattle.std.specs.Prelude.{◌≡◌, ◌≤◌, IfOk, length};
+ghost use Rattle.std.specs.Prelude.{◌≡◌, ◌≤◌, IfOk, drop, length};
 ghost use Rattle.aml_set.specs.Views.{table_codes, table_dumps};
 ghost use Rattle.acpi_tables.specs.Dumps.{most_bytes};
-ghost use Rattle.acpi_tables.specs.Header.{HoldsTable};
+ghost use Rattle.acpi_tables.specs.Header.{HoldsTable, table_of as table_in};
 ghost use Rattle.acpi_tables.specs.Order.{AreTables, bytes_of};
 ghost use Rattle.aml_text.specs.Listing.{indexes_in};
-ghost use Rattle.acpidis.specs.Bodies.{aml_of, codes_in};
+ghost use Rattle.acpidis.specs.Bodies.{codes_in};
 
 use acpi_tables::{Dump, HEADER_LENGTH, Order, bytes_of, table_of};
 use aml_code::NoMemory;
@@ -15,7 +15,7 @@ use std::alloc::Global;
 /// The AML of a definition block: what follows its header, to the end of the table (ACPI 6.5, 5.2.11.1).
 fn aml_in(bytes: &[u8]) -> &[u8]
     requires table { HoldsTable bytes.now }
-    ensures { result.now ≡ aml_of bytes.now }
+    ensures { result.now ≡ drop 36 (table_in bytes.now) }
 {
     &table_of(bytes)[HEADER_LENGTH..]
 }
@@ -25,7 +25,7 @@ fn table_at<'a>(alloc: Global, dumps: &'a [Dump], dump: usize) -> Table<'a>
     requires table { HoldsTable (bytes_of dumps.now dump) }
     requires short { length (bytes_of dumps.now dump) ≤ most_bytes }
     ensures of_dump { result.dump ≡ dump }
-    ensures of_code { result.code.now ≡ aml_of (bytes_of dumps.now dump) }
+    ensures of_code { result.code.now ≡ drop 36 (table_in (bytes_of dumps.now dump)) }
 {
     Table::unread(alloc, dump, aml_in(bytes_of(dumps, dump)))
 }

@@ -60,12 +60,9 @@ abbrev pub IsPast : List ℕ → ℕ → Type 0
 IsPast code at = (w : PkgWidth) × (v : ℕ) × LengthThere code at w v
     × ((v < width_len w) ⊎ ((end : ℕ) × IsEnd code at end × (at < end) × (end < at + v)))
 
--- the most levels of terms inside each other, and the most arguments that an External tells (ACPI 6.5, 20.2.5.2)
+-- the most levels of terms inside each other
 abbrev pub most_levels : ℕ
 most_levels = 512
-
-abbrev pub most_arguments : ℕ
-most_arguments = 7
 
 -- how many arguments a name takes, by the paths declared so far
 abbrev pub Arities : Type 0
@@ -86,7 +83,7 @@ StandsAt arity code (faults.NestedMethod at) = OpcodeThere code at (HasRow (λ p
 StandsAt arity code (faults.NestedScope at) = OpcodeThere code at (HasRow (λ p. p ≡ places.Scope))
 StandsAt arity code (faults.ModuleCode at) =
     ByteThere code at (λ b. is_name_lead b ≡ true) ⊎ OpcodeThere code at (HasRow (λ p. p ≢ places.External))
-StandsAt arity code (faults.BadCount at) = ByteThere code at (λ b. most_arguments < b)
+StandsAt arity code (faults.BadCount at) = ByteThere code at (λ b. 7 < b)
 StandsAt arity code (faults.TooDeep at) = (most_levels ≤ at) × (at < length code)
 StandsAt arity code faults.NoMemory = Unit {0}
 

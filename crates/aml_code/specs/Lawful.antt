@@ -19,7 +19,7 @@ use Rattle.aml_code.specs.Tree.{encoding, encodings}
 use Rattle.aml_names.specs.NameReading.{has_segment, is_bare}
 use Rattle.aml_code.specs.declared.packages.PkgWidth.{PkgWidth}
 use Rattle.aml_code.specs.declared.rows.PartKind.{PartKind}
-use Rattle.aml_code.specs.declared.rows.PartKind.TheVariants as kinds
+use Rattle.aml_code.specs.declared.rows.PartKind.TheVariants as part_kinds
 use Rattle.aml_code.specs.declared.rows.Place.{Place}
 use Rattle.aml_code.specs.declared.rows.Place.TheVariants as places
 use Rattle.aml_code.specs.declared.rows.Position.{Position}
@@ -27,7 +27,7 @@ use Rattle.aml_code.specs.declared.rows.Position.TheVariants as positions
 use Rattle.aml_code.specs.declared.rows.TailKind.{TailKind}
 use Rattle.aml_code.specs.declared.rows.TailKind.TheVariants as tails
 use Rattle.aml_code.specs.Packages.{width_len, FitsWidth}
-use Rattle.aml_code.specs.Faults.{Arities, StandsThere, most_levels, most_arguments}
+use Rattle.aml_code.specs.Faults.{Arities, StandsThere}
 
 -- the last part that is a name, or else this
 abbrev pub last_label : Option Name → Parts → Option Name
@@ -64,20 +64,21 @@ names_declared roles.Alias ps t = option_to_list (last_label None ps)
 names_declared roles.Fields ps t = field_names t
 names_declared _ ps t = []
 
--- The paths of names, placed from a scope, are added. A name that leads above the root adds nothing.
-abbrev pub with_names : List Seg → PathSet → List Name → PathSet
-with_names scope ls ns = fold set.insert ls (filter_map (placed scope) ns)
+-- In a method's body the paths of names, placed from the method's path, are added; a name that leads above the root
+-- adds nothing. The terms of a table keep no such paths.
+abbrev pub with_declared : Option (List Seg) → PathSet → List Name → PathSet
+with_declared None ls ns = ls
+with_declared (Some scope) ls ns = fold set.insert ls (filter_map (placed scope) ns)
 
--- the path of one name
+-- the same in a body, and of one name
+abbrev pub with_names : List Seg → PathSet → List Name → PathSet
+with_names scope ls ns = with_declared (Some scope) ls ns
+
 abbrev pub with_path : PathSet → Option (List Seg) → PathSet
 with_path ls None = ls
 with_path ls (Some p) = set.insert ls p
 
--- In a method's body the names are placed from the method's path. The terms of a table keep no such paths.
-abbrev pub with_declared : Option (List Seg) → PathSet → List Name → PathSet
-with_declared None ls ns = ls
-with_declared (Some scope) ls ns = with_names scope ls ns
-
+-- those of a term itself, by its row
 abbrev pub declared_by : Option (List Seg) → Option Row → PathSet → Parts → Tail → PathSet
 declared_by scope None ls ps t = ls
 declared_by scope (Some row) ls ps t = with_declared scope ls (names_declared row.role ps t)
@@ -158,19 +159,19 @@ next_position p t = p
 
 -- ---- What stands inside a term, by which terms may stand in which positions there.
 
--- a part of a kind
+-- a part of a kind; an External has a count of at most seven arguments (20.2.5.2)
 abbrev pub IsPart : (Position → Tree → Type 0) → PartKind → Part → Type 0
-IsPart Is kinds.Term (child t) = Is positions.Argument t
-IsPart Is kinds.Target (child t) = Is positions.Target t
-IsPart Is kinds.Data (child t) = Is positions.Data t
-IsPart Is kinds.Name (label n) = IsName n × (has_segment n ≡ true)
-IsPart Is kinds.ScopeName (label n) = IsName n
-IsPart Is kinds.Byte (byte b) = b < 256 ^ 1
-IsPart Is kinds.Count (byte b) = b ≤ most_arguments
-IsPart Is kinds.Word (word n) = n < 256 ^ 2
-IsPart Is kinds.Dword (dword n) = n < 256 ^ 4
-IsPart Is kinds.Qword (qword n) = n < 256 ^ 8
-IsPart Is kinds.Text (text bs) = All (λ b. (0 < b) × (b < 256)) bs
+IsPart Is part_kinds.Term (child t) = Is positions.Argument t
+IsPart Is part_kinds.Target (child t) = Is positions.Target t
+IsPart Is part_kinds.Data (child t) = Is positions.Data t
+IsPart Is part_kinds.Name (label n) = IsName n × (has_segment n ≡ true)
+IsPart Is part_kinds.ScopeName (label n) = IsName n
+IsPart Is part_kinds.Byte (byte b) = b < 256 ^ 1
+IsPart Is part_kinds.Count (byte b) = b ≤ 7
+IsPart Is part_kinds.Word (word n) = n < 256 ^ 2
+IsPart Is part_kinds.Dword (dword n) = n < 256 ^ 4
+IsPart Is part_kinds.Qword (qword n) = n < 256 ^ 8
+IsPart Is part_kinds.Text (text bs) = All (λ b. (0 < b) × (b < 256)) bs
 IsPart Is _ _ = ⊥
 
 -- one part of each kind
@@ -188,6 +189,7 @@ IsField Is (connection (target n)) = IsName n × (has_segment n ≡ true)
 IsField Is (connection (buffer t)) = (has_opcode 0x11 t ≡ true) × Is positions.Data t
 IsField Is (extended a b c) = (a < 256) × (b < 256) × (c < 256)
 
+-- a field list
 abbrev pub AreFields : (Position → Tree → Type 0) → Fields → Type 0
 AreFields Is no_fields = Unit {0}
 AreFields Is (field_more u us) = IsField Is u × AreFields Is us
@@ -197,6 +199,7 @@ abbrev pub TermsStand : Setting → (Position → PathSet → Tree → Type 0) �
 TermsStand s Is p ls no_trees = Unit {0}
 TermsStand s Is p ls (tree_more t ts) = Is p ls t × TermsStand s Is (next_position p t) (after s.scope ls t) ts
 
+-- what follows the parts, of a kind, or nothing
 abbrev pub IsTail : Setting → (Position → PathSet → Tree → Type 0) → Position → Option TailKind → PathSet → Tail
     → Type 0
 IsTail s Is p None ls empty = Unit {0}
@@ -244,12 +247,8 @@ setting_of arity scope code = record { code = code; arity = arity; scope = scope
 -- The bytes of a method's body read as these terms: they are lawful from no declared path on, with at most 512 levels,
 -- and they are spelled by the bytes. Declarations are placed from the method's path.
 pub record ReadsBody (arity : Arities) (method : List Seg) (code : List ℕ) (ts : Trees) : Type 0 where
-  pub lawful : AreTerms (setting_of arity (Some method) code) most_levels positions.BodyTerm set.empty ts
+  pub lawful : AreTerms (setting_of arity (Some method) code) 512 positions.BodyTerm set.empty ts
   pub spelled : encodings code ts ≡ code
-
--- in a table no name has arguments
-abbrev pub no_arguments : Arities
-no_arguments ls n = Some 0
 
 -- each method's body begins where it stands in the encoding, if that begins at an offset: behind what the term is
 -- without its tail
@@ -270,9 +269,13 @@ abbrev mutual
 -- The AML of a table reads as these terms: they are lawful as terms of a table, with at most 512 levels, no name has
 -- arguments, they are spelled by the code, and each method's body is the span where it stands.
 pub record ReadsModule (code : List ℕ) (ts : Trees) : Type 0 where
-  pub lawful : AreTerms (setting_of no_arguments None code) most_levels positions.ModuleTerm set.empty ts
+  pub lawful : AreTerms (setting_of (λ ls n. Some 0) None code) 512 positions.ModuleTerm set.empty ts
   pub spelled : encodings code ts ≡ code
   pub bodies : BodiesStand code 0 ts
+
+-- the counts of a table's names
+abbrev pub no_arguments : Arities
+no_arguments ls n = Some 0
 
 -- ---- A table whose code may run is read from the left, a step at a time.
 

@@ -11,6 +11,7 @@ use Rattle.aml_code.specs.Tree.{dword, qword, text, Parts, no_parts, part_more, 
 use Rattle.aml_code.specs.Tree.{fields, body, Field, unit, reserved, access, connection, extended, Fields, no_fields}
 use Rattle.aml_code.specs.Tree.{field_more, Link, target, buffer}
 
+-- lists of trees, of parts and of elements of a field list, as those of a tree
 abbrev pub trees_of : List Tree → Trees
 trees_of [] = no_trees
 trees_of (t ∷ ts) = tree_more t (trees_of ts)
@@ -23,7 +24,7 @@ abbrev pub fields_from : List Field → Fields
 fields_from [] = no_fields
 fields_from (u ∷ us) = field_more u (fields_from us)
 
--- one level of each, with what is inside already seen as its tree
+-- What each form stands for, with what is inside already seen so. The letters are its fields, in their order.
 abbrev pub field_step : Field-F Field Link Tree Part Tail → Field
 field_step (Field-F.NamedUnit s w n) = unit s w n
 field_step (Field-F.Reserved w n) = reserved w n
@@ -57,6 +58,7 @@ tail_step (Tail-F.Elements ts) = elements (trees_of ts.items)
 tail_step (Tail-F.Fields us) = fields (fields_from us.items)
 tail_step (Tail-F.Body a n) = body a n
 
+-- the tree of a Node, of a part, a tail, an element of a field list and a connection
 abbrev pub node_view : Node → Tree
 node_view = fold-Node Field Link Tree Part Tail field_step link_step node_step part_step tail_step
 
@@ -72,6 +74,7 @@ field_view = fold-Field Field Link Tree Part Tail field_step link_step node_step
 abbrev pub link_view : CodeLink → Link
 link_view = fold-Link Field Link Tree Part Tail field_step link_step node_step part_step tail_step
 
+-- those of several
 abbrev pub nodes_view : List Node → Trees
 nodes_view ns = trees_of (map node_view ns)
 

@@ -1,6 +1,6 @@
 //! The bytes of a tree.
-ghost use Rattle.std.specs.Prelude.{◌≡◌, ◌+◌, ◌-◌, ◌≤◌, ◌++◌, length, take, drop, replicate, OnOk, IfOk};
-ghost use Rattle.aml_names.specs.Names.{form_bytes, segment_bytes, spelling};
+ghost use Rattle.std.specs.Prelude.{◌≡◌, ◌+◌, ◌-◌, ◌≤◌, ◌++◌, length, take, drop, replicate, flat_map, OnOk, IfOk};
+ghost use Rattle.aml_names.specs.Names.{form_bytes, spelling};
 ghost use Rattle.aml_code.specs.Packages.{little, width_len, package_bytes};
 ghost use Rattle.aml_code.specs.View.{node_view, nodes_view, part_view, parts_view, tail_view, field_view, fields_view};
 ghost use Rattle.aml_code.specs.View.{link_view};
@@ -82,7 +82,7 @@ fn close_package(width: PkgWidth, at: usize, out: &mut Vec<u8>)
 }
 
 fn encode_segs(segs: &[Seg], out: &mut Vec<u8>) -> Result<(), NoMemory>
-    ensures { OnOk result (out.new.items ≡ out.old.items ++ segment_bytes segs.now) }
+    ensures { OnOk result (out.new.items ≡ out.old.items ++ flat_map (λ s. s.0) segs.now) }
 {
     for seg in segs {
         out.extend_from_slice(&seg.0)?;

@@ -4,6 +4,8 @@
 use Rattle.std.proofs.Common.{◌≡◌, ℕ, zero, suc, ◌+◌, ◌-◌, ◌%◌, ◌<◌, ◌≤◌, Bool, true, false, cond, eqb, List, [], ◌∷◌}
 use Rattle.std.proofs.Common.{◌++◌, length, take, drop, replicate, Ok}
 use Rattle.std.proofs.Common.{Err, refl, sym, ap, subst, ◌∙◌, append_assoc, ◌⊎◌, inl, inr, arith}
+use Rattle.std.specs.List.{AllByRecursion, flat_map}
+use Rattle.std.specs.Prelude.{nat_lt, not}
 use Rattle.std.proofs.lemmas.Bool.{or_left, ltb-true, ltb-false, eqb-true, ne_eqb, lt-ltb, cond_both}
 use Rattle.std.proofs.lemmas.List.{take_at, drop_at, length-append, append-nil as append_nil}
 use Rattle.aml_names.specs.declared.faults.CodeFault.{CodeFault}
@@ -12,7 +14,7 @@ use Rattle.aml_names.specs.declared.segments.Seg.{Seg}
 use Rattle.aml_names.specs.declared.names.Name.{Name}
 use Rattle.aml_names.specs.declared.names.NameForm.{NameForm}
 use Rattle.aml_names.specs.declared.names.NameForm.TheVariants.{Null, One, Dual, Multi}
-use Rattle.aml_names.specs.Names.{is_lead_char, IsNameSeg, AreNameSegs, FitsForm, FitsPrefix, IsName, segment_bytes}
+use Rattle.aml_names.specs.Names.{is_lead_char, IsNameSeg, FitsForm, IsName}
 use Rattle.aml_names.specs.Names.{form_bytes, spelling, is_name_lead}
 use Rattle.aml_names.specs.NameReading.{Fails, Left, passing_at, segment_at, segments_at, is_count, form_by, form_at}
 use Rattle.aml_names.specs.NameReading.{parents, is_rooted, path_at, name_at}
@@ -20,6 +22,13 @@ use Rattle.aml_names.specs.NameReading.{NameFault, is_bare, Begins, Spelled, Spe
 use Rattle.aml_names.proofs.NameFaults.{Reads, Sound, sound_behind, sound_then, IsPassed, passed_reads, passing_sound}
 use Rattle.aml_names.proofs.NameFaults.{IsSegment, segment_sound}
 use Rattle.aml_names.proofs.StepLaws.{ok_is, IsBytes, IsBytes-drop, Takes}
+
+abbrev pub AreNameSegs : List Seg → Type 0
+AreNameSegs = AllByRecursion (λ (s : Seg). IsNameSeg s.0)
+
+-- the bytes of segments, one after the other
+abbrev segment_bytes : List Seg → List ℕ
+segment_bytes = flat_map (λ (s : Seg). s.0)
 
 -- ---- what is read is spelled so, and a fault stands where it says
 
@@ -130,7 +139,7 @@ root_taken (b ∷ bytes) h = ap (λ c. c ∷ bytes) (eqb-true _ _ h)
 Named : List ℕ → Name × List ℕ → Type 0
 Named bytes x = IsBytes bytes → Takes bytes (spelling x.0) x.1 × IsName x.0
 
-prefixed : (root : Bool) (ups : ℕ) (bytes : List ℕ) (x : Name × List ℕ) (behind : List ℕ) → FitsPrefix root ups
+prefixed : (root : Bool) (ups : ℕ) (bytes : List ℕ) (x : Name × List ℕ) (behind : List ℕ) → (root ≡ true → ups ≡ 0)
     → bytes ≡ (cond root (0x5C ∷ []) [] ++ replicate ups 0x5E) ++ behind → Pathed root ups behind x → Named bytes x
 unfolding Named
 prefixed root ups bytes x behind fits split p whole =
@@ -147,10 +156,10 @@ prefixed root ups bytes x behind fits split p whole =
 name_sound : (end : ℕ) (bytes : List ℕ) → Sound end bytes (Named bytes) (name_at end bytes)
 unfolding name_at
 name_sound end bytes = cond_both (is_rooted bytes) _ _ (Sound end bytes (Named bytes))
-    (λ q. by true 0 (drop 1 bytes) refl (root_taken bytes q))
-    (λ q. by false (parents bytes) (drop (parents bytes) bytes) tt (parents_taken bytes))
+    (λ q. by true 0 (drop 1 bytes) (λ root. refl) (root_taken bytes q))
+    (λ q. by false (parents bytes) (drop (parents bytes) bytes) (λ root. absurd cc) (parents_taken bytes))
   where
-    by : (root : Bool) (ups : ℕ) (behind : List ℕ) → FitsPrefix root ups
+    by : (root : Bool) (ups : ℕ) (behind : List ℕ) → (root ≡ true → ups ≡ 0)
         → bytes ≡ (cond root (0x5C ∷ []) [] ++ replicate ups 0x5E) ++ behind
         → Sound end bytes (Named bytes) (path_at root ups end behind)
     by root ups behind fits split = sound_behind end bytes behind (Named bytes) (path_at root ups end behind) (_, split)
@@ -255,11 +264,11 @@ none_rooted : (ups : ℕ) (path : List ℕ) → is_rooted path ≡ false → is_
 none_rooted zero path h = h
 none_rooted (suc ups) path h = refl
 
-behind_prefixes : (root : Bool) (ups end : ℕ) (path : List ℕ) → FitsPrefix root ups → is_rooted path ≡ false
+behind_prefixes : (root : Bool) (ups end : ℕ) (path : List ℕ) → (root ≡ true → ups ≡ 0) → is_rooted path ≡ false
     → parents path ≡ 0
     → name_at end (cond root (0x5C ∷ []) [] ++ (replicate ups 0x5E ++ path)) ≡ path_at root ups end path
 unfolding name_at
-behind_prefixes true ups end path fits unrooted unraised = rw fits refl
+behind_prefixes true ups end path fits unrooted unraised = rw (fits refl) refl
 behind_prefixes false ups end path fits unrooted unraised =
     let all = parents_all ups path unraised in
     rw (none_rooted ups path unrooted, all.0, all.1) refl
@@ -289,6 +298,9 @@ segment_lead : (text rest : List ℕ) → IsNameSeg text
 segment_lead [] rest h = absurd h
 segment_lead (a ∷ text) rest h = (a, text ++ rest, refl, or_left _ _ (first_leads a text h))
 
+not_bare : (ss : List Seg) → 0 < length ss → not (nat_lt 0 (length ss)) ≡ false
+not_bare ss some = ap not (lt-ltb 0 (length ss) some)
+
 lead_of : (root : Bool) (ups : ℕ) (f : NameForm) (ss : List Seg) → (let n : Name = record { root = root; ups = ups; form = f; segs = ss } in IsName n
     → NameLead n)
 lead_of true ups f ss is =
@@ -301,9 +313,11 @@ lead_of false zero Null (s ∷ ss) is = absurd (let none : length (s ∷ ss) ≡
 lead_of false zero One [] is = absurd (let none : length {A = Seg} [] ≡ 1 = is.form in omega arith)
 lead_of false zero One (s ∷ ss) is =
     let own = segment_lead s.0 (segment_bytes ss) is.segments.0 in
-    record { lead = own.0; behind = own.1; text = own.2; kind = inl (own.3, refl) }
-lead_of false zero Dual ss is = record { lead = 0x2E; behind = segment_bytes ss; text = refl; kind = inl (refl, refl) }
-lead_of false zero Multi ss is = record { lead = 0x2F; behind = length ss % 256 ∷ segment_bytes ss; text = refl; kind = inl (refl, refl) }
+    record { lead = own.0; behind = own.1; text = own.2; kind = inl (own.3, not_bare (s ∷ ss) (omega arith)) }
+lead_of false zero Dual ss is =
+    record { lead = 0x2E; behind = segment_bytes ss; text = refl; kind = inl (refl, not_bare ss (omega (arith, is.form))) }
+lead_of false zero Multi ss is =
+    record { lead = 0x2F; behind = length ss % 256 ∷ segment_bytes ss; text = refl; kind = inl (refl, not_bare ss is.form.0) }
 
 pub name_lead : (n : Name) → IsName n → NameLead n
 name_lead n is = lead_of n.root n.ups n.form n.segs is

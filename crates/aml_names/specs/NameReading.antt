@@ -1,7 +1,7 @@
 -- Reading bytes forward, one step after the other (ACPI 6.5, 20.2). A step is handed where the innermost span ends, as
 -- an offset in the code, and what is left of that span. It answers what it read and what it left, or the first fault.
 use Rattle.std.specs.Prelude.{◌≡◌, ℕ, List, [], ◌∷◌, Result, Ok, Err, ◌⊎◌, zero, suc, ◌-◌, ◌≤◌, Bool, true, false, ◌&&◌}
-use Rattle.std.specs.Prelude.{◌==◌, nat_lt, if◌then◌else◌, ◌++◌, length, take, drop}
+use Rattle.std.specs.Prelude.{◌==◌, nat_lt, not, if◌then◌else◌, ◌++◌, length, take, drop}
 use Rattle.aml_names.specs.declared.faults.CodeFault.{CodeFault}
 use Rattle.aml_names.specs.declared.faults.CodeFault.TheVariants as faults
 use Rattle.aml_names.specs.declared.segments.Seg.{Seg}
@@ -109,13 +109,9 @@ NameFault end bytes d =
 abbrev pub has_segment : Name → Bool
 has_segment n = nat_lt 0 (length n.segs)
 
-abbrev pub is_null : NameForm → Bool
-is_null Null = true
-is_null _ = false
-
 -- the bare NullName: neither a prefix nor a segment. Its spelling is the byte 00 alone.
 abbrev pub is_bare : Name → Bool
-is_bare n = (if n.root then false else (n.ups == 0)) && is_null n.form
+is_bare n = (not n.root && (n.ups == 0)) && not (has_segment n)
 
 -- bytes that begin with a text
 abbrev pub Begins : List ℕ → List ℕ → Type 0

@@ -1,7 +1,7 @@
 -- What is kept of the declarations of a path, and its predefined kind, say of all its kinds: whether a Scope may open it
 -- (`scope_said`), and whether an Alias of it is open (`open_said`). No predefined kind is an Alias (`no_alias`).
 use Rattle.std.specs.Prelude.{◌||◌, ◌&&◌, option_to_list, nat_lt}
-use Rattle.std.proofs.Common.{◌≡◌, ℕ, suc, Bool, true, false, not, cond, List, [], ◌∷◌, ◌++◌, length, Option, Some, None}
+use Rattle.std.proofs.Common.{◌≡◌, Bool, true, false, not, cond, List, [], ◌∷◌, ◌++◌, length, Option, Some, None}
 use Rattle.std.proofs.Common.{IfSome, is_some, refl, sym, ap, ◌∙◌, arith}
 use Rattle.std.proofs.lemmas.Bool.Decides.{nat_tests}
 use Rattle.std.specs.List.{list_all, list_any}

@@ -89,16 +89,15 @@ merged (Some n) o = Some (greater n o)
 
 counted : (n : ℕ) (b : Bool) (o p : Option ℕ)
     → cond b (Some (greater n (merged o p))) (merged o p) ≡ merged (cond b (Some (greater n o)) o) p
-counted n true None p = refl
-counted n true (Some i) None = refl
-counted n true (Some i) (Some j) = ap Some (omega arith)
+counted n true None p = ap Some (omega arith)
+counted n true (Some i) p = ap Some (omega arith)
 counted n false o p = refl
 
-pushed : (n : ℕ) (b : Bool) (o : Option ℕ) → cond b (Some (greater n o)) o ≡ merged o (cond b (Some n) None)
+pushed : (n : ℕ) (b : Bool) (o : Option ℕ) → cond b (Some (greater n o)) o ≡ merged o (cond b (Some (greater n None)) None)
 pushed n true None = refl
 pushed n true (Some i) = ap Some (omega arith)
 pushed n false None = refl
-pushed n false (Some i) = refl
+pushed n false (Some i) = ap Some (omega arith)
 
 -- what a list says, and behind it another
 module _ (fs : List Entry) (q : List Seg) where

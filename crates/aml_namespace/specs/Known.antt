@@ -61,16 +61,16 @@ pub record Declared : Type 0 where
   pub sure : Bool
   pub times : ℕ
 
-abbrev pub once : Kind → Bool → Declared
-once kind sure = record { kind = kind; others = []; sure = sure; times = 1 }
-
--- one declaration more, before the others
+-- one declaration more, before the others, if there are any
 abbrev pub before : Kind → Bool → Option Declared → Declared
-before kind sure None = once kind sure
+before kind sure None = record { kind = kind; others = []; sure = sure; times = 1 }
 before kind sure (Some d) =
     record { kind = kind; others = cond sure [] (d.kind ∷ d.others); sure = sure || d.sure; times = d.times + 1 }
 
--- and one more behind them
+-- one alone, and one more behind the others
+abbrev pub once : Kind → Bool → Declared
+once kind sure = before kind sure None
+
 abbrev pub again : Declared → Kind → Bool → Declared
 again d kind sure = record {
   kind = d.kind;
@@ -83,7 +83,7 @@ abbrev pub behind : Option Declared → Kind → Bool → Declared
 behind None kind sure = once kind sure
 behind (Some d) kind sure = again d kind sure
 
--- those of a path in a list of entries
+-- What the declarations of a path in a list of entries say. The kind is that of `declared_at` (proved: `first_said`).
 abbrev pub declaration_at : List Entry → List Seg → Option Declared
 declaration_at [] q = None
 declaration_at (declares p k b sure ∷ es) q =
@@ -143,7 +143,8 @@ outlook_in k = record {
 }
 
 -- What is known stands for a list of entries: the declarations of each path say the same in both, and both have the
--- same greatest count of Externals for each path, and the same given one.
+-- same greatest count of Externals for each path, and the same given one. Which scopes are open, and which paths have
+-- numbers, is said elsewhere.
 pub record StandsFor (k : Known) (es : List Entry) : Type 0 where
   pub same_declared : (q : List Seg) → map.get k.declarations q ≡ declaration_at es q
   pub same_outs : (q : List Seg) → map.get k.outs q ≡ outs_at es q

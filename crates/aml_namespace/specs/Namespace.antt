@@ -35,6 +35,7 @@ Givens = List (List Seg × ℕ)
 abbrev pub given_entries : Givens → List Entry
 given_entries gs = map (λ g. given g.0 g.1) gs
 
+-- whether two paths are the same
 abbrev pub same_path : List Seg → List Seg → Bool
 same_path = eq_by_cmp path_cmp
 
@@ -44,21 +45,16 @@ declared_at [] q = None
 declared_at (declares p k b sure ∷ es) q = cond (same_path q p) (Some k) (declared_at es q)
 declared_at (_ ∷ es) q = declared_at es q
 
--- the greater of a count and one that may be missing
-abbrev pub greater : ℕ → Option ℕ → ℕ
-greater n None = n
-greater n (Some m) = max n m
-
 -- the greatest count of a path's Externals
 abbrev pub outs_at : List Entry → List Seg → Option ℕ
 outs_at [] q = None
-outs_at (external p n ∷ es) q = cond (same_path q p) (Some (greater n (outs_at es q))) (outs_at es q)
+outs_at (external p n ∷ es) q = cond (same_path q p) (Some (max n (unwrap_or (outs_at es q) 0))) (outs_at es q)
 outs_at (_ ∷ es) q = outs_at es q
 
 -- the greatest count that the user gives to a path
 abbrev pub given_at : List Entry → List Seg → Option ℕ
 given_at [] q = None
-given_at (given p n ∷ es) q = cond (same_path q p) (Some (greater n (given_at es q))) (given_at es q)
+given_at (given p n ∷ es) q = cond (same_path q p) (Some (max n (unwrap_or (given_at es q) 0))) (given_at es q)
 given_at (_ ∷ es) q = given_at es q
 
 -- ---- Where a name leads, and how many arguments it takes (ACPI 6.5, 5.3).
@@ -78,17 +74,10 @@ namespace_of es = record { declared = declared_at es; outs = outs_at es; givens 
 abbrev pub kind_at : Namespace → List Seg → Option Kind
 kind_at n p = option_or (n.declared p) (predefined p)
 
--- whether a path is one of the locals or has a kind
-abbrev pub decides : Namespace → PathSet → List Seg → Bool
-decides n locals p = set.contains locals p || is_some (kind_at n p)
-
--- whether an External names a path
-abbrev pub is_outside : Namespace → List Seg → Bool
-is_outside n p = is_some (n.outs p)
-
 -- the first path that is one of the locals or has a kind, else the first that an External names
 abbrev pub first_of : Namespace → PathSet → List (List Seg) → Option (List Seg)
-first_of n locals paths = option_or (find (decides n locals) paths) (find (is_outside n) paths)
+first_of n locals paths = option_or
+    (find (λ p. set.contains locals p || is_some (kind_at n p)) paths) (find (λ p. is_some (n.outs p)) paths)
 
 -- the path that a name means in a scope
 abbrev pub found : Namespace → PathSet → List Seg → Name → Option (List Seg)
@@ -108,25 +97,41 @@ count_by n (Some (Method args)) out = Some args
 count_by n (Some (Alias is_open target)) out = Some (target_count (kind_at n target) (n.outs target))
 count_by n (Some _) out = Some 0
 
--- how many arguments a path takes: by its kind, else the greatest count of its Externals
-abbrev pub count_at : Namespace → List Seg → Option ℕ
-count_at n p = count_by n (kind_at n p) (n.outs p)
-
 -- the count that the user gives to the first of these paths that has one
 abbrev pub first_given : Namespace → List (List Seg) → Option ℕ
 first_given n [] = None
 first_given n (p ∷ paths) = option_or (n.givens p) (first_given n paths)
 
--- the count of a name that leads nowhere, by the paths that it may mean: the given one, else 0 if unknown names count
--- so
-abbrev pub unknown_count : Namespace → Bool → List (List Seg) → Option ℕ
-unknown_count n unknown_zero paths = option_or (first_given n paths) (cond unknown_zero (Some 0) None)
-
+-- The count of a name that may mean some paths, and leads to one or nowhere: without one the given count, else 0 if
+-- unknown names count so; none of one of the locals; else by the path's kind and its Externals.
 abbrev pub arity_at : Namespace → Bool → PathSet → List (List Seg) → Option (List Seg) → Option ℕ
-arity_at n unknown_zero locals paths None = unknown_count n unknown_zero paths
-arity_at n unknown_zero locals paths (Some p) = cond (set.contains locals p) (Some 0) (count_at n p)
+arity_at n unknown_zero locals paths None = option_or (first_given n paths) (cond unknown_zero (Some 0) None)
+arity_at n unknown_zero locals paths (Some p) =
+    cond (set.contains locals p) (Some 0) (count_by n (kind_at n p) (n.outs p))
 
--- how many arguments a name takes in a method's body: none if it means one of the locals, else by its path
+-- how many arguments a name takes in a method's body, by the path that it means
 abbrev pub arity_of : Namespace → Bool → List Seg → PathSet → Name → Option ℕ
 arity_of n unknown_zero method locals name =
     arity_at n unknown_zero locals (candidates method name) (found n locals method name)
+
+-- ---- Parts of these, as the code asks them.
+
+-- the greater of a count and one that may be missing
+abbrev pub greater : ℕ → Option ℕ → ℕ
+greater n o = max n (unwrap_or o 0)
+
+-- whether a path is one of the locals or has a kind
+abbrev pub decides : Namespace → PathSet → List Seg → Bool
+decides n locals p = set.contains locals p || is_some (kind_at n p)
+
+-- whether an External names a path
+abbrev pub is_outside : Namespace → List Seg → Bool
+is_outside n p = is_some (n.outs p)
+
+-- how many arguments a path takes
+abbrev pub count_at : Namespace → List Seg → Option ℕ
+count_at n p = count_by n (kind_at n p) (n.outs p)
+
+-- how many arguments a name takes that leads nowhere
+abbrev pub unknown_count : Namespace → Bool → List (List Seg) → Option ℕ
+unknown_count n unknown_zero paths = arity_at n unknown_zero set.empty paths None

@@ -5,7 +5,7 @@ use Rattle.std.specs.List.{find}
 use Rattle.aml_names.specs.declared.segments.Seg.{Seg}
 use Rattle.aml_names.specs.Paths.{PathSet}
 use Rattle.aml_names.specs.Searching.{upward}
-use Rattle.aml_namespace.specs.Namespace.{Namespace, first_given, arity_at, first_of, is_outside}
+use Rattle.aml_namespace.specs.Namespace.{first_given, arity_at, first_of, is_outside}
 use Rattle.aml_namespace.specs.Runs.{Outlook, counts_met, arity_met, first_agreed, agreed_or}
 
 -- the nearest local, where it stands at a depth or further down

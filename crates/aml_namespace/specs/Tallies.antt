@@ -4,7 +4,7 @@ use Rattle.std.specs.Prelude.{◌+◌, ◌++◌, ◌||◌}
 use Rattle.std.specs.List.{list_any, list_all}
 use Rattle.std.specs.Global.{Box}
 use Rattle.aml_namespace.specs.declared.kinds.Kind.{Kind}
-use Rattle.aml_namespace.specs.declared.kinds.Kind.TheVariants.{Method, Alias}
+use Rattle.aml_namespace.specs.declared.kinds.Kind.TheVariants.{Method}
 use Rattle.aml_namespace.specs.declared.tallies.Counts.{Counts}
 use Rattle.aml_namespace.specs.declared.tallies.Counts.TheVariants.{Nothing, One, Several}
 use Rattle.aml_namespace.specs.declared.tallies.Tally.{Tally}

@@ -24,7 +24,6 @@ use Rattle.aml_code.specs.Lawful.{last_label, unit_names, plain_name}
 use Rattle.aml_code.specs.Tree.{child, label, byte, word, dword, qword, text, unit, reserved, access, connection, extended}
 use Rattle.aml_code.proofs.Answered.{answered}
 use Rattle.std.specs.Prelude.{nat_lt, if◌then◌else◌}
-use Rattle.aml_code.specs.Faults.{most_arguments}
 use Rattle.aml_parse.specs.Reading.{held, flat, count_part, text_part, segmented_at, link_at, field_at, reserved_unit, access_unit, extended_unit, named_unit}
 use Rattle.aml_parse.proofs.Loops.{onto, then_rest, then_all}
 

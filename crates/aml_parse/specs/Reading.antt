@@ -23,7 +23,7 @@ use Rattle.aml_code.specs.Tree.{dword, qword, text, Parts, no_parts, part_more, 
 use Rattle.aml_code.specs.Tree.{body, Field, unit, reserved, access, connection, extended, Fields, no_fields}
 use Rattle.aml_code.specs.Tree.{field_more, Link, target, buffer, slice_of}
 use Rattle.aml_code.specs.Lawful.{names_declared, with_declared, count_in, is_guard, terms_in, tail_in, next_position}
-use Rattle.aml_code.specs.Faults.{Arities, most_levels, most_arguments}
+use Rattle.aml_code.specs.Faults.{Arities, most_levels}
 use Rattle.aml_parse.specs.declared.positions.Lead.{Lead}
 use Rattle.aml_parse.specs.declared.parser.Parser.{Parser}
 
@@ -61,7 +61,7 @@ held_inside holds read = do
 unfoldable pub count_part : ℕ → List ℕ → Left Part
 count_part end bytes = do
   n ← little_at 1 end bytes
-  if nat_lt most_arguments n.0 then Err (CodeFault.BadCount (end - length bytes)) else Ok (byte n.0, n.1)
+  if nat_lt 7 n.0 then Err (CodeFault.BadCount (end - length bytes)) else Ok (byte n.0, n.1)
 
 -- a text up to its 00
 abbrev pub text_part : ℕ → List ℕ → Left Part

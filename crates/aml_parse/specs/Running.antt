@@ -57,7 +57,7 @@ module _ {S E : Type 0} (names : Names S E) (code : List ℕ) where
 
   -- a table's AML reads as these terms, with the states in front of the table and behind it
   abbrev pub ReadsTable : S → Trees → S → Type 0
-  ReadsTable first ts last = ReadsTerms most_levels Position.RunTerm 0 (length code) first ts last
+  ReadsTable first ts last = ReadsTerms 512 Position.RunTerm 0 (length code) first ts last
 
   -- A table reads one way: from one state in front of it as the same terms, with the same state behind them.
   abbrev pub ReadsOneWay : Type 0

@@ -1,4 +1,5 @@
-use Rattle.acpi_tables.proofs.Common.{◌≡◌, map, range_with_len, address_at, address_width, listed_in}
+use Rattle.acpi_tables.proofs.Common.{◌≡◌, map, range_with_len, address_at, address_width}
+use Rattle.acpi_tables.proofs.Once.{listed_in}
 use Rattle.acpi_tables.proofs.by_chain.listed_in.Given as goal
 
 abbrev pub invariant-loop-index : goal.invariant-loop-index

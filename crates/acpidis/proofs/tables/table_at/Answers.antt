@@ -1,5 +1,5 @@
-use Rattle.acpidis.proofs.Common.{◌∙◌, ap, sym, subst, arith, length, HoldsTable, bytes_of, aml_of}
-use Rattle.acpidis.proofs.TableLaws.{aml_within}
+use Rattle.acpidis.proofs.Common.{◌∙◌, ap, sym, subst, arith, length, HoldsTable, bytes_of}
+use Rattle.acpidis.proofs.TableLaws.{aml_of, aml_within}
 use Rattle.acpidis.proofs.tables.table_at.Goals as goal
 
 pub aml_in-requires : goal.aml_in-requires
