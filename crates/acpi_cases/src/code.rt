@@ -27,7 +27,12 @@ struct Each {
 impl Arity for Each {
     ghost arity = { λ each _ _. Some each.count };
 
-    fn count(&self, _alloc: Global, _locals: &Locals, _name: &Name) -> Result<Option<u8>, NoMemory> {
+    fn count(
+        &self,
+        _alloc: Global,
+        _locals: &Locals,
+        _name: &Name,
+    ) -> Result<Option<u8>, NoMemory> {
         Ok(Some(self.count))
     }
 }

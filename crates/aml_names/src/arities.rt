@@ -56,12 +56,7 @@ pub trait Names {
         ensures { IfOk result (λ count. count ≡ arity self.now (paths self.now locals.now) name.now) };
 
     /// Adds the path of a declared name. One that leads above the root has none.
-    fn declare(
-        &self,
-        alloc: Global,
-        locals: &mut Self::Locals,
-        name: &Name,
-    ) -> Result<(), NoMemory>
+    fn declare(&self, alloc: Global, locals: &mut Self::Locals, name: &Name) -> Result<(), NoMemory>
         requires { fits self.now locals.old }
         ensures fits { fits self.now locals.new }
         ensures declared { OnOk result

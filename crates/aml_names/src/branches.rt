@@ -115,11 +115,7 @@ impl<S: Stand> Branches<S> {
         ensures { result ≡ set.contains self.now.paths (take front self.now.scope ++ segs.now) }
     {
         self.may_end(segs)
-            && has_branch(
-                self.alloc,
-                &self.kept,
-                branch_of(&self.scope, front, segs),
-            )
+            && has_branch(self.alloc, &self.kept, branch_of(&self.scope, front, segs))
     }
 
     /// Whether one of the paths may have the last of these segments.

@@ -11,9 +11,7 @@ ghost use Rattle.aml_parse.specs.Reading.{all_at};
 
 use crate::parser::{MOST_LEVELS, Parser};
 use crate::room::without_room;
-use aml_code::{
-    Arity, CodeFault, Locals, Name, Names, NoMemory, Node, Path, Position, place,
-};
+use aml_code::{Arity, CodeFault, Locals, Name, Names, NoMemory, Node, Path, Position, place};
 use std::alloc::Global;
 
 /// The names of a body whose counts anybody tells who has all of its paths, and the scope from which these are placed.

@@ -49,12 +49,7 @@ impl Names for NoArguments {
         Ok(Some(0))
     }
 
-    fn declare(
-        &self,
-        _alloc: Global,
-        _locals: &mut Nothing,
-        _name: &Name,
-    ) -> Result<(), NoMemory> {
+    fn declare(&self, _alloc: Global, _locals: &mut Nothing, _name: &Name) -> Result<(), NoMemory> {
         Ok(())
     }
 }

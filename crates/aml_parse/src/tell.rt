@@ -24,8 +24,8 @@ use crate::units::{
     access_unit_of, extended_unit_of, named_link_of, named_unit_of, reserved_unit_of,
 };
 use aml_code::{
-    CodeFault, Field, Names, NoMemory, OpRow, PartKind, Piece, Position, Seg, Sink,
-    TailKind, byte_of, offset_of,
+    CodeFault, Field, Names, NoMemory, OpRow, PartKind, Piece, Position, Seg, Sink, TailKind,
+    byte_of, offset_of,
 };
 use aml_names::name_of;
 

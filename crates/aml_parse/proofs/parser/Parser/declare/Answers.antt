@@ -10,5 +10,5 @@ returns-in-Fields-clause-declared g c =
     let names = c.args.self.now.names.now in
     let paths = g.N.Names.paths names in
     rw c.in-Fields.is (subst (λ (ls : PathSet). OnOk c.declare_units.result (paths c.declare_units.new.locals ≡ ls))
-        (each_declared (g.N.Names.scope names) (paths c.args.locals.now) (field_names (tail_view c.args.tail.now)))
-        c.declare_units.ensures.declared)
+    (each_declared (g.N.Names.scope names) (paths c.args.locals.now) (field_names (tail_view c.args.tail.now)))
+    c.declare_units.ensures.declared)
