@@ -1,8 +1,9 @@
 """Pieces of AML, and whole tables, of which the tests beside this file make their sets."""
 
 
-def packed(opcode, content, width=2):
+def packed(opcode, content):
     """An opcode with a package length of 2 to 4 bytes around its content (ACPI 6.5, 20.2.4)."""
+    width = next(width for width in (2, 3, 4) if len(content) + width < 16 << 8 * (width - 1))
     size = len(content) + width
     return opcode + bytes([(width - 1) << 6 | size & 15]) + (size >> 4).to_bytes(width - 1, "little") + content
 

@@ -46,6 +46,11 @@ class Dump(NamedTuple):
     data: bytes
 
 
+def dumps_of(files):
+    """The dumps of files, by their names, without addresses."""
+    return [Dump(name, None, data) for name, data in sorted(files.items())]
+
+
 def little(data, at, width):
     return int.from_bytes(data[at:at + width], "little")
 
