@@ -24,9 +24,9 @@ import subprocess
 import sys
 import tempfile
 
-from tally import TOP, Tally  # before the others, whose places it tells
+from tally import TOP, Tally, written  # before the others, whose places it tells
 from board import VERSIONS
-from made_aml import table
+from made_aml import tables
 
 LISTING = "docs/listing.md"
 PAGES = ["listing", "tables", "refusals", "any_run", "changing", "many", "facts"]
@@ -41,7 +41,7 @@ MADE_UP = {"draw_copy1", "Lts"}
 SCRIPTS = ["tests/meaning.py", "tests/survey.sh", "tests/install.sh", "tests/examples.py", "tests/library.sh"]
 DSDT = b"\x08BAR_\x0A\x05" + b"\x14\x0BFOO_\x02\xA4\x72\x68\x69\x00" + b"\x14\x0BCALL\x00\xA4ZZZZ"
 SSDT = b"\x10\x17\\_SB_\x5B\x82\x0FDEV0\x14\x09_STA\x08\xA4\x0A\x0F" + b"\x06FOO_ALIA"
-SETS = {"mine": {"dsdt.dat": table(b"DSDT", DSDT), "ssdt1.dat": table(b"SSDT", SSDT)}}
+SETS = {"mine": tables(DSDT, SSDT)}
 SETS |= {f"boards/{version}": files for version, files in VERSIONS.items()}
 
 # In place of ssh: each host has the tables of `mine`, but for one that doesn't answer.
@@ -60,9 +60,7 @@ exec tar -C mine -cf - .
 
 def make_room(room, is_installed):
     for place, files in SETS.items():
-        (room / place).mkdir(parents=True)
-        for name, data in files.items():
-            (room / place / name).write_bytes(data)
+        written(room / place, files)
     (room / "bin").mkdir()
     commands = {"bin/ssh": SSH}
     if is_installed:
@@ -76,10 +74,9 @@ def make_room(room, is_installed):
         (room / name).chmod(0o755)
 
 
-def printed_by(command, room):
-    environment = {**os.environ, "PATH": f"{room}/bin:{os.environ['PATH']}"}
-    how = {"stdout": subprocess.PIPE, "stderr": subprocess.STDOUT, "check": False}
-    return subprocess.run(["sh", "-c", command], cwd=room, env=environment, **how).stdout.decode()
+def printed_by(words, **more):
+    how = {"stdout": subprocess.PIPE, "stderr": subprocess.STDOUT, "text": True, "check": False}
+    return subprocess.run(words, **{**how, **more}).stdout
 
 
 def blocks_of(page, kind):
@@ -107,9 +104,10 @@ def check_commands(checks, page, is_installed):
     checks.is_so(f"{page}: it has no command", commands)
     with tempfile.TemporaryDirectory() as room:
         make_room(pathlib.Path(room), is_installed)
+        environment = {**os.environ, "PATH": f"{room}/bin:{os.environ['PATH']}"}
         for command, wanted in commands:
             command = as_installed(command) if is_installed else command
-            printed = printed_by(command, room)
+            printed = printed_by(["sh", "-c", command], cwd=room, env=environment)
             checks.is_so(f"{page}: {command}\nprinted\n{printed}not\n{wanted}", printed == wanted)
 
 
@@ -223,8 +221,7 @@ def check_goals(checks):
 def check_manual(checks):
     for lint in LINTS:
         if shutil.which(lint[0]):
-            words = [*lint, TOP / MANUAL]
-            said = subprocess.run(words, stdout=subprocess.PIPE, stderr=subprocess.STDOUT, check=False).stdout.decode()
+            said = printed_by([*lint, TOP / MANUAL])
             checks.is_so(f"{MANUAL}: {lint[0]}\n{said}", not said)
 
 
@@ -239,12 +236,6 @@ def words_of_program():
     return {word for message in messages for word in re.findall(r"^[A-Z][A-Za-z]+", message)}
 
 
-def words_of_refusals():
-    """The words of the first column of the tables."""
-    cells = re.findall(r"^\| `([^`]*)`", (TOP / REFUSALS).read_text(), re.MULTILINE)
-    return {word for cell in cells for word in re.findall(r"[A-Z][A-Za-z]+[a-z]", cell)}
-
-
 def section(manual, name):
     return "".join(re.findall(rf"^\.SH {name}\n(.*?)^\.SH", manual, re.MULTILINE | re.DOTALL)[:1])
 
@@ -254,13 +245,13 @@ def check_words(checks):
     readme = (TOP / README).read_text().partition("\n## Options")[2].partition("\n## ")[0]
     manual = (TOP / MANUAL).read_text().replace("\\-", "-")
     headings = "\n".join(re.findall(r"^(?:\.BR? |acpidis: )(.*)$", section(manual, "DIAGNOSTICS"), re.MULTILINE))
-    run = subprocess.run([TOP / "acpidis", "--any-sum", "--help"], stdout=subprocess.PIPE, check=False)
-    options, words = options_in(run.stdout.decode()), words_of_program()
+    options, words = options_in(printed_by([TOP / "acpidis", "--any-sum", "--help"])), words_of_program()
+    cells = re.findall(r"^\| `([^`]*)`", (TOP / REFUSALS).read_text(), re.MULTILINE)
     for name, got, wanted in [
         ("options of the manual", options_in(section(manual, "OPTIONS")), options),
         ("options of README", options_in(readme) | {"--help", "--version"}, options),
         ("words of the manual", set(re.findall(r"\b[A-Z][a-z]+[A-Za-z]*\b", headings)), words),
-        ("words of refusals.md", words_of_refusals(), words),
+        ("words of refusals.md", set(re.findall(r"[A-Z][A-Za-z]+[a-z]", "\n".join(cells))), words),
     ]:
         checks.is_so(f"{name}: {sorted(got ^ wanted)}", got == wanted)
 
@@ -268,8 +259,7 @@ def check_words(checks):
 def check_scripts(checks):
     """Each check of a script, by its last line."""
     for script in SCRIPTS:
-        run = subprocess.run([TOP / script], stdout=subprocess.PIPE, check=False)
-        *shown, last = run.stdout.decode().splitlines()
+        *shown, last = printed_by([TOP / script], stderr=None).splitlines()
         print("".join(f"{line}\n" for line in shown), end="")
         passed, failed = map(int, re.fullmatch(r"(\d+) passed, (\d+) failed", last).groups())
         checks.passed += passed

@@ -3,10 +3,12 @@
 from __future__ import annotations
 
 import argparse
+import importlib.util
 import itertools
 import pathlib
 import subprocess
 import sys
+import types
 from collections.abc import Iterable
 
 sys.dont_write_bytecode = True
@@ -54,6 +56,15 @@ def written(folder: pathlib.Path, files: dict[str, bytes]) -> pathlib.Path:
     for name, data in files.items():
         (folder / name).write_bytes(data)
     return folder
+
+
+def module_of(name: str, file: pathlib.Path) -> types.ModuleType:
+    """A module of this name, whatever its file is called."""
+    spec = importlib.util.spec_from_file_location(name, file)
+    module = importlib.util.module_from_spec(spec)
+    sys.modules[name] = module
+    spec.loader.exec_module(module)
+    return module
 
 
 def run_script(name: str, *words: object, **more: object) -> subprocess.CompletedProcess:
