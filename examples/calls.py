@@ -97,14 +97,8 @@ def listing_of(asked):
 
 def main():
     words = command.folder_parser(__doc__)
-    try:
+    with command.running_it("calls"):
         run = listing_of(command.parse(words))
-    except running.Refused as fault:
-        print(f"calls: the set is refused: {fault}", file=sys.stderr)
-        sys.exit(1)
-    except (running.Unusable, OSError, ValueError) as fault:
-        print(f"calls: {fault}", file=sys.stderr)
-        sys.exit(2)
     found = list(calls(run.listing))
     for scope, name, count, operator, line in found:
         print(f"{scope}: {name} takes {count}, in {operator}: {line[:SHOWN]}")

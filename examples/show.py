@@ -62,12 +62,8 @@ def main():
     words.add_argument("path", metavar="PATH", type=wanted)
     asked = words.parse_args()
     reader = Reader(lambda table, space: ShownBlock(table, space, asked.path))
-    try:
+    with command.reading("show", NoListing, f"{asked.listing!r}: "):
         reader.read(asked.listing)
-    except NoListing as fault:
-        sys.exit(f"show: {asked.listing!r}: {fault}")
-    except OSError as fault:
-        command.leave(f"show: {fault.filename!r}: {fault.strerror}")
     shown = [it for block in reader.blocks for it in block.shown]
     if not shown:
         sys.exit(f"show: {asked.listing!r} declares no such path")

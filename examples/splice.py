@@ -160,11 +160,6 @@ def entry(number, name, mode, data):
     return head + bytes(-len(head) % 4) + data + bytes(-len(data) % 4)
 
 
-def read(file):
-    with open(file, "rb") as opened:
-        return opened.read()
-
-
 def main():
     words = command.parser(__doc__)
     words.add_argument("--oem-revision", action="store_true")
@@ -176,8 +171,8 @@ def main():
     asked = words.parse_args()
     if sys.stdout.isatty() and not asked.output:
         words.error("a table isn't for a terminal: name a file for it by -o")
-    try:
-        table, new = read(asked.dump), read(asked.new)
+    with command.reading("splice", Refused):
+        table, new = command.read(asked.dump), command.read(asked.new)
         for path in asked.paths:
             table = patched(table, new, path, (asked.dump, asked.new))
         table = raised(table) if asked.oem_revision else table
@@ -186,10 +181,6 @@ def main():
         if asked.output:
             command.write(asked.output, table)
             return
-    except Refused as fault:
-        sys.exit(f"splice: {fault}")
-    except OSError as fault:
-        command.leave(f"splice: {fault.filename!r}: {fault.strerror}")
     sys.stdout.buffer.write(table)
 
 

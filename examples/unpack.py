@@ -177,12 +177,8 @@ def main():
     words.add_argument("file", metavar="FILE")
     words.add_argument("folder", metavar="FOLDER")
     asked = words.parse_args()
-    try:
+    with command.reading("unpack", Refused, f"{asked.file!r}: "):
         write(asked.folder, tables_of(pathlib.Path(asked.file).read_bytes()))
-    except Refused as fault:
-        sys.exit(f"unpack: {asked.file!r}: {fault}")
-    except OSError as fault:
-        command.leave(f"unpack: {fault.filename!r}: {fault.strerror}")
 
 
 if __name__ == "__main__":

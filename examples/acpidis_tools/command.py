@@ -1,6 +1,7 @@
 """What all scripts have of a command: the words of its line, the options of acpidis that it passes on, and how it ends."""
 
 import argparse
+import contextlib
 import os
 import re
 import subprocess
@@ -127,6 +128,34 @@ def run(script, main):
         leave(f"{script}: there is not enough memory")
     except KeyboardInterrupt:
         leave(f"{script}: interrupted")
+
+
+@contextlib.contextmanager
+def running_it(script):
+    """Ends a script in a line where acpidis refuses the set, or where that or a file is at fault."""
+    try:
+        yield
+    except running.Refused as fault:
+        sys.exit(f"{script}: the set is refused: {fault}")
+    except (running.Unusable, OSError, ValueError) as fault:
+        print(f"{script}: {fault}", file=sys.stderr)
+        sys.exit(AT_FAULT)
+
+
+@contextlib.contextmanager
+def reading(script, refusal, front=""):
+    """Ends a script in a line where it refuses what it is given, or where a file is at fault."""
+    try:
+        yield
+    except refusal as fault:
+        sys.exit(f"{script}: {front}{fault}")
+    except OSError as fault:
+        leave(f"{script}: {fault.filename!r}: {fault.strerror}")
+
+
+def read(file):
+    with open(file, "rb") as opened:
+        return opened.read()
 
 
 def write(file, data):

@@ -47,15 +47,12 @@ MOST_MEMORY, MEMORY_STOP = 2 << 30, 6 << 30
 MOST_DIFFERENCES, MOST_CHANGES = 5, 4
 
 
-def limit_memory():
-    resource.setrlimit(resource.RLIMIT_AS, (MEMORY_STOP, MEMORY_STOP))
-
-
 def measured_run(program, folder, options):
     """What the program does, and what it takes that is too much."""
+    limit = lambda: resource.setrlimit(resource.RLIMIT_AS, (MEMORY_STOP, MEMORY_STOP))
     with tempfile.TemporaryFile() as out, tempfile.TemporaryFile() as err:
         words = [program, *options.words(), folder]
-        child = subprocess.Popen(words, stdout=out, stderr=err, stdin=subprocess.DEVNULL, preexec_fn=limit_memory)
+        child = subprocess.Popen(words, stdout=out, stderr=err, stdin=subprocess.DEVNULL, preexec_fn=limit)
         stop = threading.Timer(LONGEST_RUN, child.kill)
         stop.start()
         _, status, usage = os.wait4(child.pid, 0)
@@ -179,10 +176,6 @@ def write_trial(room, trial):
     return folder, dataclasses.replace(trial.options, externals=str(room / EXTERNALS))
 
 
-def read_files(folder):
-    return {name: (folder / name).read_bytes() for name in file_names(folder)}
-
-
 def arguments():
     words = argparse.ArgumentParser(description=__doc__, formatter_class=argparse.RawDescriptionHelpFormatter)
     words.add_argument("folders", nargs="*", type=pathlib.Path)
@@ -208,7 +201,7 @@ def main():
     for folder in asked.folders:
         comparison.compare(folder, Options(any_run=asked.any_run))
         comparison.compare(folder, Options(any_run=asked.any_run, check=True))
-    known = [read_files(folder) for folder in asked.folders]
+    known = [{name: (folder / name).read_bytes() for name in file_names(folder)} for folder in asked.folders]
     maker = SetMaker(random.Random(asked.seed), known, asked.with_externals, asked.any_run, asked.deep)
     maker = MutatedMaker(maker) if asked.mutated else maker
     number, until = 0, time.monotonic() + asked.seconds

@@ -89,22 +89,12 @@ def root_sums(data):
     return sums_to_zero(data[:20]) and (not is_wide(data) or sums_to_zero(data[:little(data, 20, 4)]))
 
 
-def check_facs(data):
-    if len(data) < 8 or not 8 <= little(data, 4, 4) <= len(data):
-        raise Bad("Short")
-
-
-def addresses_of(table):
-    """The addresses that an XSDT or an RSDT lists."""
-    width = LISTS[table[:4]]
-    if (len(table) - HEADER_LENGTH) % width:
+def addresses_of(table, signature=None):
+    """The addresses that an XSDT or an RSDT lists, by its signature or another one."""
+    width = LISTS[signature or table[:4]]
+    if len(table) < HEADER_LENGTH or (len(table) - HEADER_LENGTH) % width:
         raise Bad("BadRoot")
     return [little(table, at, width) for at in range(HEADER_LENGTH, len(table), width)]
-
-
-def check_fadt(fadt):
-    if len(fadt) < FADT_LENGTH:
-        raise Bad("FadtShort")
 
 
 def records_of(madt):
@@ -128,14 +118,18 @@ def check_dump(data, any_sum):
         if not any_sum and not root_sums(data):
             raise Bad("BadSum")
     elif data.startswith(FACS):
-        check_facs(data)
+        if len(data) < 8 or not 8 <= little(data, 4, 4) <= len(data):
+            raise Bad("Short")
     else:
         table = table_of(data)
         if not any_sum and not sums_to_zero(table):
             raise Bad("BadSum")
-        check_content = {b"FACP": check_fadt, b"APIC": records_of, **dict.fromkeys(LISTS, addresses_of)}.get(table[:4])
-        if check_content:
-            check_content(table)
+        if table.startswith(b"FACP") and len(table) < FADT_LENGTH:
+            raise Bad("FadtShort")
+        if table.startswith(b"APIC"):
+            records_of(table)
+        elif table[:4] in LISTS:
+            addresses_of(table)
 
 
 # ---- the order
@@ -158,11 +152,6 @@ def signed(dumps, signature):
     return [index for index, dump in enumerate(dumps) if dump.data.startswith(signature)]
 
 
-def stem_number(name):
-    stem = name.rpartition(".")[0] or name
-    return int(re.search(r"[0-9]*\Z", stem)[0][-9:] or 0)
-
-
 def order_by_names(dumps):
     dsdts = signed(dumps, b"DSDT")
     if not dsdts:
@@ -171,7 +160,10 @@ def order_by_names(dumps):
         raise Bad("TwoDsdts", dsdts[1])
 
     def place(index):
-        return stem_number(dumps[index].name), dumps[index].name.encode(), index
+        """The number at the end of the name without its last part, and the name."""
+        name = dumps[index].name
+        stem = name.rpartition(".")[0] or name
+        return int(re.search(r"[0-9]*\Z", stem)[0][-9:] or 0), name.encode(), index
 
     return dsdts + sorted(signed(dumps, b"SSDT"), key=place)
 

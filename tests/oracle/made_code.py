@@ -27,11 +27,6 @@ BOUNDS, WIDEST = (64, 1 << 12, 1 << 20, 1 << 28), 4
 ARGUMENT_COUNTS = [0, 0, 0, 1, 1, 2, 2, 3, 7]
 
 
-def predefined_counts():
-    """How many arguments the predefined paths take."""
-    return {path: kind[1] if kind[0] == "Method" else 0 for path, kind in PREDEFINED.items()}
-
-
 def prefix_of(name):
     return b"\\" if name.root else b"^" * name.ups
 
@@ -73,13 +68,12 @@ class Maker:
         self.strange_terms = chance.choices([0, 0.01, 0.1], [85, 10, 5])[0]
         self.strange_calls = chance.choices([0, 0.02, 0.2], [70, 20, 10])[0]
         self.scope, self.opened, self.fresh_count = (), (), 0
-        self.known, self.locals = predefined_counts(), []
+        self.known = {path: kind[1] if kind[0] == "Method" else 0 for path, kind in PREDEFINED.items()}
+        self.locals = []
         self.methods = {(self.fresh_segment(),): chance.choice(ARGUMENT_COUNTS) for _ in range(4)}
-        if gives:
-            self.methods |= {self.deep_path(): chance.choice(ARGUMENT_COUNTS) for _ in range(3)}
-
-    def deep_path(self):
-        return (*self.chance.choice(((), ("_SB_",), ("_GPE",), (self.fresh_segment(),))), self.fresh_segment())
+        for _ in range(3 if gives else 0):
+            above = chance.choice(((), ("_SB_",), ("_GPE",), (self.fresh_segment(),)))
+            self.methods[(*above, self.fresh_segment())] = chance.choice(ARGUMENT_COUNTS)
 
     def tables(self):
         """The AML of the tables of the set, the DSDT's first."""

@@ -90,17 +90,14 @@ def found_count(run, scope, name, local):
     return None if kind[0] == "Alias" and run.kind(kind[1]) is None else run.count(path)
 
 
-def has_alias(space, scope, name):
-    return any(kind[0] == "Alias" for path in name.candidates(scope) for kind in space.kinds_of(path))
-
-
 def holds(space, runs, scope, name, local):
     """Whether the promise and its converse hold of a name."""
     met = space.counts_met(scope, name, local)
     counts = {found_count(run, scope, name, local) for run in runs} - {None}
     if met and agreed(met) is not None:
         return counts <= {space.arity(scope)(local, name)} == set(met)
-    return not met or has_alias(space, scope, name) or len(counts) > 1
+    kinds = [kind for path in name.candidates(scope) for kind in space.kinds_of(path)]
+    return not met or any(kind[0] == "Alias" for kind in kinds) or len(counts) > 1
 
 
 def fails_of(declarations, externals):

@@ -74,12 +74,9 @@ def runs_of(tables):
 def behind_all(runs, scope, terms):
     """How runs may be behind some terms, each of which they meet."""
     for term in terms:
-        runs = distinct(after for run in runs for after in behind(run, scope, term))
+        after = (one for run in runs for one in behind(run, scope, term))
+        runs = list({frozenset(run.items()): run for run in after}.values())
     return runs
-
-
-def distinct(runs):
-    return list({frozenset(run.items()): run for run in runs}.values())
 
 
 def behind(run, scope, term):
@@ -249,9 +246,6 @@ class Comparison:
     def __init__(self, program):
         self.program, self.passed, self.failed, self.wrong, self.silent = program, 0, 0, 0, 0
 
-    def is_over(self, counts):
-        return self.passed + self.failed >= counts or self.wrong >= MOST_WRONG or self.silent >= MOST_SILENT
-
     def compare(self, maker):
         tables = maker.tables()
         runs = runs_of(tables)
@@ -288,7 +282,9 @@ def main():
         sys.exit("the program isn't built: ./acpidis demo builds it")
     comparison = Comparison(None if asked.read else asked.program.resolve())
     maker = TermMaker(random.Random(asked.seed))
-    while not comparison.is_over(asked.counts):
+    while comparison.passed + comparison.failed < asked.counts and comparison.wrong < MOST_WRONG:
+        if comparison.silent >= MOST_SILENT:
+            break
         comparison.compare(maker)
     if comparison.silent >= MOST_SILENT:
         comparison.failed += 1

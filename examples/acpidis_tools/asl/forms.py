@@ -2,13 +2,9 @@
 
 import os
 
-from acpidis_tools import aml
+from acpidis_tools import aml, command
 
 LIMITS = (1 << 6, 1 << 12, 1 << 20, 1 << 28)
-
-
-class Misfit(Exception):
-    """A file isn't the dump of its table in the listing."""
 
 
 def shortest(size):
@@ -87,13 +83,12 @@ def told(folder, blocks):
     for block in blocks:
         file = block.table.name()
         path = os.path.join(os.fsencode(folder), file)
-        with open(path, "rb") as opened:
-            dump = opened.read()
+        dump = command.read(path)
         code = dump[36 : int.from_bytes(dump[4:8], "little")]
         reader = Reader(code, block.said, block.bodies)
         at = reader.read()
         if at < len(code) or next(reader.said, None):
-            raise Misfit(f"{os.fsdecode(path)!r} isn't the dump of this listing: they differ at byte {at + 36}")
+            command.leave(f"asl: {os.fsdecode(path)!r} isn't the dump of this listing: they differ at byte {at + 36}")
         what = ", ".join(filter(None, (reader.lengths.told("lengths"), reader.names.told("names"))))
         if what:
             yield f"{block.table.file[1:-1]}: {what} aren't in their shortest form, which iasl writes"
