@@ -58,27 +58,15 @@ def printed_bytes(command, folder):
             return int(counter.stdout.read())
 
 
-def growth(whole, half):
-    """How many times as much processor time and memory the whole takes as its half, and the text of that."""
-    time, memory = whole.processor / max(half.processor, 0.001), whole.peak / half.peak
-    return time, f"({time:.1f} and {memory:.1f} times)"
-
-
 def answer_text(whole, half, most):
-    """The time and the memory of a run, with their growth, and whether it is too much."""
+    """The time and the memory of a run, how many times those of its half they are, and whether that is too much."""
     if whole is None:
         return "no answer", True
     text = f"{whole.seconds:7.2f} s {whole.peak / 1e6:6.0f} MB"
     if half is None:
         return text, True
-    times, more = growth(whole, half)
-    return f"{text} {more}", times > most and whole.processor > LEAST_SECONDS
-
-
-def iasl_text(iasl):
-    if iasl is None:
-        return ""
-    return f"iasl -d {iasl.seconds:.2f} s" + (f", status {iasl.status}" if iasl.status else "")
+    times, memory = whole.processor / max(half.processor, 0.001), whole.peak / half.peak
+    return f"{text} ({times:.1f} and {memory:.1f} times)", times > most and whole.processor > LEAST_SECONDS
 
 
 def line(shape, answers, text_bytes, iasl):
@@ -86,11 +74,12 @@ def line(shape, answers, text_bytes, iasl):
     plain, grows = answer_text(*answers[0], most)
     check, check_grows = answer_text(*answers[1], most)
     whole, star = answers[0][0], "*" if shape.is_square else ""
+    status = f", status {iasl.status}" if iasl and iasl.status else ""
     words = [
         f"{shape.name + star:18}", f"{shape.size:>8} {shape.unit:9}", plain,
         f"{text_bytes / 1e6:6.0f} MB of text" if text_bytes is not None else "",
-        f"status {whole.status}" if whole else "", f"--check {check}", iasl_text(iasl),
-        "GROWS" if grows or check_grows else "",
+        f"status {whole.status}" if whole else "", f"--check {check}",
+        f"iasl -d {iasl.seconds:.2f} s{status}" if iasl else "", "GROWS" if grows or check_grows else "",
     ]
     return "   ".join(word for word in words if word)
 

@@ -96,12 +96,9 @@ def run(command, folder, limit, text=subprocess.DEVNULL, errors=subprocess.DEVNU
 def several(count, command, folder, limit, **more):
     """What so many runs take; nothing where one takes too long."""
     answers = []
-    for _ in range(count):
-        answer = run(command, folder, limit, **more)
-        if answer is None:
-            return []
-        answers.append(answer)
-    return answers
+    while len(answers) < count and None not in answers:
+        answers.append(run(command, folder, limit, **more))
+    return [] if None in answers else answers
 
 
 def best(*words, **more):
