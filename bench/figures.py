@@ -47,9 +47,6 @@ OUTERMOST = b"X000"
 DEVICE = (measuring.TOP / "bench/device.asl").read_text()
 
 
-# ---- sets
-
-
 def compiled(devices: int) -> bytes:
     """A DSDT with so many devices, sixteen to a bus, by iasl."""
     text = 'DefinitionBlock ("", "DSDT", 2, "BENCH", "FIGURES", 1) {\nDevice (\\_SB.' + OUTERMOST.decode() + ") {\n"
@@ -76,9 +73,6 @@ SETS = (
     ("101 tables", sets.SETS["calls-101"]),
     ("one long body", sets.one(lambda: sets.long_body(sets.MIXED, sets.SIZES["1"]))),
 )
-
-
-# ---- measuring
 
 
 @dataclass
@@ -116,9 +110,6 @@ def figures_of(name, make, program, asked):
         commands = [[program, "--workers", str(count), str(tables)] for count in (1, MOST_WORKERS)]
         commands.append(["iasl", "-d", *(os.path.basename(file) for file in files)])
         return Figures(name, size, *(best(command, beside, asked) for command in commands))
-
-
-# ---- the section of README
 
 
 def row(figures, limit):

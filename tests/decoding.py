@@ -79,9 +79,6 @@ def check_words(checks: Tally) -> None:
     checks.is_same("places", got, wanted)
 
 
-# ---- a set with a bit of everything
-
-
 HPET = buffer(data_of("86 09 00 01 00 00 D0 FE 00 04 00 00 22 01 00 79 00"))
 UUID = buffer(data_of("5B 4D DB 33 F7 1F 1C 40 96 57 74 41 C0 3D D7 66"))
 # CreateDWordField (BUF0, 0x04, BASE), CreateBitField (BUF0, 0x68, BIT0)
@@ -166,9 +163,6 @@ def check_notes(checks: Tally, folder: pathlib.Path) -> None:
     wanted = dict(row.rpartition(": ")[::2] for row in WANTED)
     short = {next((head for head in wanted if text.startswith(head)), text): note for text, note in said.items()}
     checks.is_same("the notes of a set", short, wanted)
-
-
-# ---- beside iasl
 
 
 def our_facts(listing: Listing, decoder: Decoder) -> dict[str, dict[str, list]]:

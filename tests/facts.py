@@ -35,9 +35,6 @@ FACTS = TOP / "examples/facts.py"
 facts_script = module_of("facts_script", FACTS)
 
 
-# ---- what the independent reading says
-
-
 def regions_told(teller: Teller, has_raw: bool) -> list:
     """The regions, with the values of Names that nothing writes, passes on, or may be declared again."""
     space = teller.space
@@ -65,9 +62,6 @@ def names_told(teller: Teller) -> set:
         count = kind[1] if kind[0] == "Method" else None
         found.add((path_text(path), kind[0], count, "maybe" if "Maybe" in text else "always", times))
     return found
-
-
-# ---- what the facts say
 
 
 class Read:

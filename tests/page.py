@@ -42,9 +42,6 @@ ELEMENTS = set(
 lines_module.CHUNK, tree_module.MANY = 7, 3
 
 
-# ---- checks
-
-
 class Checks(Tally):
     def run(self, *words: str) -> subprocess.CompletedProcess:
         return run_script("page.py", *words)

@@ -55,9 +55,6 @@ exec tar -C mine -cf - .
 """
 
 
-# ---- commands
-
-
 def make_room(room, is_installed):
     for place, files in SETS.items():
         written(room / place, files)
@@ -109,9 +106,6 @@ def check_commands(checks, page, is_installed):
             command = as_installed(command) if is_installed else command
             printed = printed_by(["sh", "-c", command], cwd=room, env=environment)
             checks.is_so(f"{page}: {command}\nprinted\n{printed}not\n{wanted}", printed == wanted)
-
-
-# ---- what stands on pages
 
 
 def check_readme(checks):

@@ -126,7 +126,10 @@ class Decoder:
     # ---- buffers
 
     def buffers(self, line: Line) -> list[Term]:
-        return buffers_of(self.terms(line)) if "Buffer" in line.pieces else []
+        """The buffers of which all bytes stand in the line."""
+        found = [term for term, _ in places(self.terms(line)) if term.word == "Buffer"] if "Buffer" in line.pieces else []
+        found = [term for term in found if isinstance(term.braced, bytes) and term.arguments and term.arguments[0]]
+        return [term for term in found if term.arguments[0].number == len(term.braced)]
 
     def templates(self, line: Line) -> list[Template]:
         found = []
@@ -210,39 +213,23 @@ class Decoder:
         elif line.term in FIELD_LISTS:
             notes.append(", ".join(flag_words(self.terms(line))))
         elif line.term == "OperationRegion":
-            notes += self.space_note(line)
+            space = self.terms(line)[0].argument(1)
+            notes += [space_name(space.number)] if space and space.number is not None else []
         elif line.term in ("Name", "Method", "Device", "Return"):
             notes += self.name_notes(line, bool(notes))
         return notes
 
-    def space_note(self, line: Line) -> list[str]:
-        space = self.terms(line)[0].argument(1)
-        return [space_name(space.number)] if space and space.number is not None else []
-
     def name_notes(self, line: Line, has_identifier: bool) -> list[str]:
         name = declared_name(line)
         if name == "_STA" or line.term == "Return" and line.method and line.method[-1] == "_STA":
-            return self.status_notes(line, name)
+            value = self.terms(line)[0].argument(1 if name else 0) if line.term != "Method" else None
+            if value and value.number is not None:
+                return [status_words(value.number)]
+            return [PREDEFINED_NAMES[name]] if name else []
         form = EVENT.fullmatch(name)
         if form and line.term == "Method":
             return [f"{EVENTS[form[1]]} 0x{form[2]}"]
         return [PREDEFINED_NAMES[name]] if name in PREDEFINED_NAMES and not has_identifier else []
-
-    def status_notes(self, line: Line, name: str) -> list[str]:
-        value = (*self.terms(line)[0].arguments, None)[1 if name else 0] if line.term != "Method" else None
-        if value and value.number is not None:
-            return [status_words(value.number)]
-        return [PREDEFINED_NAMES[name]] if name else []
-
-
-def buffers_of(terms: list[Term]) -> list[Term]:
-    """The buffers of which all bytes stand in the line."""
-    return [
-        term for term, _ in places(terms)
-        if term.word == "Buffer" and isinstance(term.braced, bytes) and term.arguments and term.arguments[0]
-        and term.arguments[0].number == len(term.braced)
-    ]
-
 
 def hardware_name(line: Line) -> str | None:
     """_HID or _CID, where a line gives the value of such an object: declared so, or returned by such a method."""

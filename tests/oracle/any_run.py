@@ -29,8 +29,6 @@ class RunNamespace(Namespace):
         super().__init__(given)
         self.declarations = {}
 
-    # ---- paths
-
     def kinds_of(self, path):
         """What may stand at a path: the kinds up to the first sure one, or all and the predefined one."""
         kinds = []
@@ -52,8 +50,6 @@ class RunNamespace(Namespace):
     def rows(self):
         """The declared paths with the kinds of their first declarations, and their marks."""
         return sorted((path, found[0][0], marks_of(found)) for path, found in self.declarations.items())
-
-    # ---- counts
 
     def counts(self, path):
         """How many arguments each of the kinds takes that may stand at a path; None where nobody knows."""
@@ -95,8 +91,6 @@ class RunNamespace(Namespace):
             return self.externals[external]
         given = self.given_count(scope, name)
         return 0 if given is None and unknown_zero else given
-
-    # ---- declarations
 
     def find(self, scope, name, declared=()):
         """Where a name leads in every run, or None."""

@@ -59,9 +59,6 @@ def sums_to_zero(data):
     return sum(data) % 256 == 0
 
 
-# ---- one dump
-
-
 def table_of(data):
     """The bytes of a table with the standard header."""
     if len(data) < HEADER_LENGTH or not HEADER_LENGTH <= little(data, 4, 4) <= len(data):
@@ -130,9 +127,6 @@ def check_dump(data, any_sum):
             records_of(table)
         elif table[:4] in LISTS:
             addresses_of(table)
-
-
-# ---- the order
 
 
 def order_of(dumps, any_sum):
@@ -205,9 +199,6 @@ def list_of(root):
 def dsdt_address(fadt):
     wide = little(fadt, 140, 8) if len(fadt) >= 148 else 0
     return wide or little(fadt, 40, 4)
-
-
-# ---- the lines
 
 
 def dump_lines(dumps):

@@ -43,8 +43,6 @@ class PlainMaker(Maker):
     def late_method(self, path, count):
         return self.method(self.spelled(self.root_name(path)), path, count)
 
-    # ---- shortest forms
-
     def length(self, size):
         return package_length(size, 1)
 
@@ -62,8 +60,6 @@ class PlainMaker(Maker):
     def scope_name(self):
         name = super().scope_name()
         return self.spelled(self.root_name(self.opened)) if name == b"\0" else name
-
-    # ---- terms
 
     def statements(self, depth):
         code = b""

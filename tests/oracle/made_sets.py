@@ -32,9 +32,6 @@ class Trial:
     externals: bytes | None = None
 
 
-# ---- tables
-
-
 def sealed(data):
     """A table with its length and a right checksum."""
     data = bytearray(data)
@@ -103,9 +100,6 @@ def facs(chance):
 
 def other(chance):
     return table(chance, chance.choice(SIGNATURES), chance.randbytes(chance.randrange(40)))
-
-
-# ---- folders
 
 
 class SetMaker:

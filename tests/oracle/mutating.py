@@ -143,8 +143,6 @@ class Mutator:
         at = self.chance.choice(self.span(layout))
         return Span(at, at)
 
-    # ---- bytes
-
     def flip(self, code, layout):
         start, end = self.span(layout)
         if start == end:
@@ -167,8 +165,6 @@ class Mutator:
             return self.flip(code, layout)
         to, source = self.chance.sample(places, 2)
         return code[:to] + code[source:source + 4] + code[to + 4:]
-
-    # ---- terms
 
     def change_term(self, code, layout):
         """A term is gone, stands there again and again, or is another one of the table."""
@@ -215,8 +211,6 @@ class Mutator:
         name, further = self.chance.choice(methods + externals)
         at = name_end(code, name) + further
         return code[:at] + bytes([self.chance.choice((0, 1, 2, 7, self.chance.randrange(256)))]) + code[at + 1:]
-
-    # ---- package lengths
 
     def change_length(self, code, layout):
         """One package length a bit more or less, or any; or with more bytes than it needs."""

@@ -132,9 +132,6 @@ def count_in(run, question):
     return None
 
 
-# ---- questions
-
-
 class Question(NamedTuple):
     """A method that asks what a name takes, with a local path in front, if there is one."""
 
@@ -176,9 +173,6 @@ def questions_of(chance, runs):
     for number in range(QUESTIONS):
         local = chance.choice(paths) if paths and chance.random() < 0.1 else None
         yield Question((*chance.choice(scopes), f"{ASKING}{number:03}"), chance.choice(names), local)
-
-
-# ---- what is told
 
 
 class Wrong(Exception):

@@ -11,9 +11,9 @@ import pathlib
 import re
 from html import escape
 
-from acpidis_tools.comparison import Text, differences
+from acpidis_tools.comparison import differences
 from acpidis_tools.errors import raw_lines
-from acpidis_tools.listing import TEXT, Listing, Path, path_text
+from acpidis_tools.listing import TEXT, Listing, path_text
 from acpidis_tools.names import PREDEFINED
 from acpidis_tools.page.lines import blocks_html, uses_html
 from acpidis_tools.page.packing import index_html
@@ -61,22 +61,6 @@ def undeclared_html(sheet: Sheet) -> list[str]:
 # ---- the comparison
 
 
-def text_html(text: Text) -> str:
-    return f"<pre>{escape(chr(10).join(text))}</pre>"
-
-
-def difference_html(here: Text, there: Text) -> str:
-    """Two texts as one: the lines that this listing alone has are struck out, those that the other one alone has stand
-    where it has them."""
-    lines = (f"<{mark}>{escape(line)}</{mark}>" if mark else escape(line) for mark, line in differences(here, there))
-    return f"<pre>{chr(10).join(lines)}</pre>"
-
-
-def anchor_of_added(sheet: Sheet, path: Path) -> str:
-    """A path that only the other listing declares may be predefined here, or an External's, and then has its anchor."""
-    return "" if path in PREDEFINED or path in sheet.names.externals else f" id={path_text(path)}"
-
-
 def comparison_html(sheet: Sheet) -> list[str]:
     found = sheet.comparison
     if not found:
@@ -84,16 +68,18 @@ def comparison_html(sheet: Sheet) -> list[str]:
     names = sheet.names.lines
     links = {path: link(path) if sheet.has_path(path) else path_text(path) for path in (*found.lacks, *found.changes)}
     lacks = [f"<li class=lacking>{links[path]}</li>\n" for path in sorted(found.lacks)]
-    adds = [
-        f"<li class=added><details{anchor_of_added(sheet, path)}><summary>{path_text(path)}</summary>"
-        f"{text_html(text)}</details></li>\n"
-        for path, text in found.adds.items()
-    ]
-    changes = [
-        f"<li class=changed><details id=c{names[path].number}><summary>{links[path]}</summary>"
-        f"{difference_html(found.here[path], text)}</details></li>\n"
-        for path, text in found.changes.items()
-    ]
+    adds, changes = [], []
+    for path, text in found.adds.items():
+        # It may be predefined here, or an External's, and then has its anchor.
+        has_anchor = path in PREDEFINED or path in sheet.names.externals
+        head = f"<details{'' if has_anchor else f' id={path_text(path)}'}><summary>{path_text(path)}</summary>"
+        adds.append(f"<li class=added>{head}<pre>{escape(chr(10).join(text))}</pre></details></li>\n")
+    for path, text in found.changes.items():
+        # Lines that this listing alone has are struck out, those of the other one stand where it has them.
+        lines = differences(found.here[path], text)
+        shown = chr(10).join(f"<{mark}>{escape(line)}</{mark}>" if mark else escape(line) for mark, line in lines)
+        head = f"<details id=c{names[path].number}><summary>{links[path]}</summary>"
+        changes.append(f"<li class=changed>{head}<pre>{shown}</pre></details></li>\n")
     written = [f"<section id=comparison><h2>Beside {escape(found.other)}</h2>\n", *table_changes_html(sheet)]
     ours, theirs = escape(sheet.name), escape(found.other)
     kinds = ((adds, f"{theirs} alone has"), (lacks, f"{ours} alone has"), (changes, f"{theirs} has otherwise than {ours}"))
