@@ -24,7 +24,7 @@ import shutil
 import subprocess
 import sys
 import tempfile
-from dataclasses import dataclass
+from collections import namedtuple
 
 import measuring
 import plot
@@ -75,15 +75,8 @@ SETS = (
 )
 
 
-@dataclass
-class Figures:
-    """What was measured of one set; no answer where a run took too long."""
-
-    name: str
-    size: int
-    alone: measuring.Answer | None
-    together: measuring.Answer | None
-    iasl: measuring.Answer | None
+# What was measured of one set; no answer where a run took too long
+Figures = namedtuple("Figures", "name size alone together iasl")
 
 
 def best(command, folder, asked):

@@ -21,6 +21,7 @@ import os
 import re
 import shlex
 import sys
+from collections import namedtuple
 
 from acpidis_tools import command
 from acpidis_tools.asl import forms, language
@@ -33,11 +34,8 @@ TOLD = 3
 MOST_EXTERNALS = 200_000
 
 
-class Made:
-    """A text that is to be written: the table that it is of, its lines, and what ASL can't spell."""
-
-    def __init__(self, table, lines, told):
-        self.table, self.lines, self.told = table, lines, told
+# A text that is to be written: the table that it is of, its lines, and what ASL can't spell
+Made = namedtuple("Made", "table lines told")
 
 
 def of_listing(asked):

@@ -20,6 +20,7 @@ import sys
 import tempfile
 
 from acpidis_tools import command, paths, running
+from acpidis_tools.errors import spelled_name
 
 COUNTS = range(8)
 MOST_NAMES = 1000
@@ -28,7 +29,6 @@ MOST_RUNS = 1000
 SEGMENT = re.compile(running.SEGMENT)
 ANYWHERE = re.compile(rf"(?=({running.SEGMENT}))".encode())
 OUTSIDE = re.compile(r'table "[^"]*": ModuleCall (\\\S+)')
-NAME = re.compile(rb"(\\|\^*)(?:\x2e(.{8})|\x2f(.)|([A-Z_][A-Z0-9_]{3})|\x00)", re.DOTALL)
 
 
 class Body:
@@ -51,14 +51,10 @@ class Body:
 
 def name_at(raw, at):
     """The prefix and the segments of the name that stands there."""
-    form = NAME.match(raw, at)
-    if not form:
+    form = running.NAME.fullmatch(spelled_name(raw[at:]))
+    if not form[0]:
         raise running.Unusable(f"no name stands at {at} of a body that wants one: is this another version of acpidis?")
-    path = form[2] or form[4] or b""
-    if form[3]:
-        path = raw[form.end() : form.end() + 4 * form[3][0]]
-    text = path.decode("ascii")
-    return form[1].decode(), [text[i : i + 4] for i in range(0, len(text), 4)]
+    return form[1], form[2].split(".") if form[2] else []
 
 
 def bodies_of(run):

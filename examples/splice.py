@@ -14,6 +14,7 @@ written then. 2 is a command line that is at fault, or a file that can't be read
 """
 
 import sys
+from collections import namedtuple
 
 from acpidis_tools import aml, command
 
@@ -28,12 +29,9 @@ class Refused(Exception):
     """Why there is no patched table."""
 
 
-class Place:
-    """Where a path is declared: the term's word, its first byte, the byte behind its name, and the one behind it; the path
-    of the scope that it stands in, and the package lengths around it, the outer first, with its own where it has one."""
-
-    def __init__(self, word, start, named, end, scope, lengths):
-        self.word, self.start, self.named, self.end, self.scope, self.lengths = word, start, named, end, scope, lengths
+# Where a path is declared: the term's word, its first byte, the byte behind its name, and the one behind it; the path of the
+# scope that it stands in, and the package lengths around it, the outer first, with its own where it has one
+Place = namedtuple("Place", "word start named end scope lengths")
 
 
 class Reader(aml.Reader):
@@ -139,9 +137,6 @@ def raised(table):
     if revision >> 32:
         raise Refused("the OEM revision can't be raised: it is FFFFFFFF")
     return sealed(table[:OEM_REVISION] + revision.to_bytes(4, "little") + table[OEM_REVISION + 4 :])
-
-
-# ---- an archive for the front of an initrd
 
 
 def archive(table):

@@ -55,9 +55,6 @@ def length_of(data):
     return little(data, 4, 4)
 
 
-# ---- the text of acpidump
-
-
 def dumped(text):
     """The tables of acpidump's text."""
     tables, title = [], None
@@ -81,9 +78,6 @@ def whole(number, name, data):
     if len(data) < 8 or length_of(data) > len(data):
         raise Refused(f"line {number}: {name} has {len(data)} bytes of {length_of(data) if len(data) > 7 else 'its header'}")
     return data
-
-
-# ---- tables as bytes
 
 
 def behind_each_other(data):
@@ -121,9 +115,6 @@ def tables_of(data):
     if not tables:
         raise Refused("it is packed: unpack it first" if data.startswith(PACKED) else "no table is in it")
     return tables
-
-
-# ---- the folder
 
 
 def names_of(tables):

@@ -7,6 +7,7 @@ tables mean the program alone says. Each byte is read once, and the search for n
 import pathlib
 import re
 import sys
+from collections import namedtuple
 
 from acpidis_tools import paths, standard
 
@@ -163,13 +164,8 @@ class Space:
 # ---- reading
 
 
-class Use:
-    """A name where a value is wanted: its term, the scope, the count that is known there, and the terms around it."""
-
-    __slots__ = ("term", "name", "scope", "read", "around")
-
-    def __init__(self, term, name, scope, read, around):
-        self.term, self.name, self.scope, self.read, self.around = term, name, scope, read, around
+# A name where a value is wanted: its term, the scope, the count that is known there, and the terms around it
+Use = namedtuple("Use", "term name scope read around")
 
 
 class Reader:

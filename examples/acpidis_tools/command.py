@@ -18,9 +18,6 @@ NO_LISTING = ("--help", "--version", "--check")
 SEGMENT = re.compile(r"[A-Z_][A-Z0-9_]{0,3}")
 
 
-# ---- the line
-
-
 def parser(about, **more):
     """The command line of a script, whose help is what its first lines say. Where it is installed it has another name there."""
     made = argparse.ArgumentParser(description=about, formatter_class=argparse.RawDescriptionHelpFormatter, **more)
@@ -44,9 +41,6 @@ def path_of(word):
     if not all(map(SEGMENT.fullmatch, segments)):
         raise argparse.ArgumentTypeError(f"{word!r} is no path, as \\_SB_.PCI0._PTS is one")
     return "\\" + ".".join(segment.ljust(4, "_") for segment in segments)
-
-
-# ---- options of acpidis
 
 
 def known():
@@ -85,9 +79,6 @@ def words_of(options):
     return [word for item in options.items() for word in item if word is not None]
 
 
-# ---- on the way
-
-
 class Progress:
     """How far a script is, in a line of a terminal, from two seconds on. Into a file or a pipe it says nothing."""
 
@@ -108,9 +99,6 @@ class Progress:
         if self.is_shown:
             print("\r\x1b[K", end="", file=sys.stderr, flush=True)
             self.is_shown = False
-
-
-# ---- the end
 
 
 def run(script, main):

@@ -144,9 +144,6 @@ def shortened(text: str) -> str:
     return text if len(text) <= LONGEST else f"{text[:LONGEST]}.. {hashlib.sha256(text.encode()).hexdigest()}"
 
 
-# ---- tables
-
-
 def compare_tables(here: list[Dump], there: list[Dump]) -> tuple[dict[str, Optional[Text]], set[int]]:
     """For each file whose lines differ what the other listing alone has of it, None where it has no such file, and the
     numbers of the lines here that it hasn't."""

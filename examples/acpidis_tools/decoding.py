@@ -100,8 +100,6 @@ class Decoder:
         kind = self.terms(line)[0].argument(0)
         return named(ACCESS_TYPES, (kind.number or 0) & 0x0F) if kind else ""
 
-    # ---- meanings of a line's names by the places of its words
-
     def meanings(self, line: Line) -> dict[int, Meaning]:
         places_of_names = (place for place, word in enumerate(line.words) if is_name(word))
         return dict(zip(places_of_names, self.names.meanings[line.number]))
@@ -122,8 +120,6 @@ class Decoder:
         if line.term == "CreateField" and count:
             bits = count.number
         return index.number * unit if index and index.number is not None else None, bits
-
-    # ---- buffers
 
     def buffers(self, line: Line) -> list[Term]:
         """The buffers of which all bytes stand in the line."""
@@ -164,8 +160,6 @@ class Decoder:
     def uuids(self, line: Line) -> list[str]:
         return [text for term in self.buffers(line) for text in [uuid_text(term.braced)] if text]
 
-    # ---- predefined objects
-
     def rows(self, line: Line) -> list[str]:
         """What the value of a predefined object says, which a line declares or returns."""
         if line.term not in ("Name", "Return") or len(line.words) < 2:
@@ -184,8 +178,6 @@ class Decoder:
         meaning = self.meanings(line).get(1)
         return self.returned.get(meaning.anchor, "") if meaning else ""
 
-    # ---- identifiers
-
     def identifiers(self, line: Line) -> list[tuple[int, str]]:
         """The identifiers that a line gives a device by _HID or _CID, each with the place of its word."""
         if hardware_name(line) is None:
@@ -199,8 +191,6 @@ class Decoder:
             elif EISA_NUMBER.fullmatch(term.word) and eisa_id(term.word):
                 found.append((term.place, eisa_id(term.word)))
         return found
-
-    # ---- notes
 
     def notes(self, line: Line) -> list[str]:
         """What to say behind a line, in a few words each."""

@@ -9,6 +9,7 @@ import pathlib
 import re
 import shutil
 import subprocess
+from collections import namedtuple
 
 from acpidis_tools import paths, standard
 from acpidis_tools.listing import SEGMENT, NoListing, reader_of
@@ -230,11 +231,8 @@ class Listing:
         return node, self.methods[-1]
 
 
-class Run:
-    """What a run printed: the reason why the set is refused, or the listing and the fault of each raw body."""
-
-    def __init__(self, refused, listing, faults):
-        self.refused, self.listing, self.faults = refused, listing, faults
+# What a run printed: the reason why the set is refused, or the listing and the fault of each raw body
+Run = namedtuple("Run", "refused listing faults")
 
 
 def run(words):

@@ -1,24 +1,18 @@
 """Code outside methods, as --any-run reads it, after docs/any_run.md: its terms are read from
 the left, each with the counts of what stands before it, and declare what then stands surely or only may stand."""
 
+from collections import namedtuple
 from dataclasses import dataclass
-from typing import NamedTuple
 
 from loading import MOST_METHODS, PREDEFINED, Loaded, Method, Namespace, Unloadable, path_text, placed
-from reading import ALIAS, EXTERNAL, FIELD_LISTS, KINDS, METHOD, ROWS, SCOPE, SCOPES, Name, Reader, Refused
+from reading import ALIAS, EXTERNAL, FIELD_LISTS, KINDS, METHOD, ROWS, SCOPE, SCOPES, Reader, Refused
 
 # The kinds of paths that a Scope opens in every run that has them
 SCOPE_KINDS = {"Scope", *(KINDS[opcode] for opcode in SCOPES - {SCOPE})}
 
 
-class Use(NamedTuple):
-    """A name where a value is wanted or a term stands, with the number of its arguments that were read."""
-
-    table: int
-    scope: tuple
-    name: Name
-    count: int
-    in_declaration: bool
+# A name where a value is wanted or a term stands, with the number of its arguments that were read
+Use = namedtuple("Use", "table scope name count in_declaration")
 
 
 class RunNamespace(Namespace):

@@ -1,7 +1,7 @@
 """Dumps of tables after docs/tables.md: which are taken, the order of the definition blocks, and the lines of all dumps."""
 
 import re
-from typing import NamedTuple
+from collections import namedtuple
 
 from printing import file_text, hexadecimal, quoted
 
@@ -38,12 +38,8 @@ class Bad(Exception):
         self.dump = dump
 
 
-class Dump(NamedTuple):
-    """The name of its file, the address at which the table stood, if that is known, and its bytes."""
-
-    name: str
-    address: int | None
-    data: bytes
+# The name of its file, the address at which the table stood, None where that isn't known, and its bytes
+Dump = namedtuple("Dump", "name address data")
 
 
 def dumps_of(files):

@@ -269,12 +269,10 @@ class Maker:
         return b"".join(self.part(kind, opcode, depth, inside) for kind in ROWS[opcode].parts)
 
     def part(self, kind, opcode, depth, inside):
-        if kind == "T":
-            return b"\0" if opcode == IF and inside == "table" else self.value(depth, inside)
-        if kind == "S":
-            return self.target(depth, inside)
-        if kind == "D":
-            return self.data(depth, inside)
+        if kind == "T" and opcode == IF and inside == "table":
+            return b"\0"
+        if kind in "TSD":
+            return {"T": self.value, "S": self.target, "D": self.data}[kind](depth, inside)
         if kind == "N":
             is_new = opcode in DECLARATIONS and opcode not in FIELD_LISTS
             return self.new_name(inside) if is_new else self.any_name()
@@ -283,17 +281,14 @@ class Maker:
         return self.chance.randbytes(int(kind))
 
     def tail(self, kind, opcode, depth, inside):
+        if kind in ("e", "f"):
+            make, most = (self.data, 4) if kind == "e" else (self.unit, 5)
+            return b"".join(make(depth, inside) for _ in range(self.chance.randrange(most)))
         if kind == "t":
             return self.block(opcode, depth, inside)
         if kind == "b":
             return self.body(self.opened)
-        if kind == "y":
-            return self.bytes(4)
-        if kind == "e":
-            return b"".join(self.data(depth, inside) for _ in range(self.chance.randrange(4)))
-        if kind == "f":
-            return b"".join(self.unit(depth, inside) for _ in range(self.chance.randrange(5)))
-        return b""
+        return self.bytes(4) if kind == "y" else b""
 
     def block(self, opcode, depth, inside):
         if opcode not in SCOPES:
@@ -305,17 +300,11 @@ class Maker:
 
     def unit(self, depth, inside):
         kind = self.chance.randrange(8)
-        if kind == 0:
-            return b"\0" + self.bits()
-        if kind == 1:
-            return b"\1" + self.chance.randbytes(2)
-        if kind == 2:
-            return b"\3" + self.chance.randbytes(3)
-        if kind == 3:
-            return b"\2" + self.any_name()
-        if kind == 4:
-            return b"\2" + self.operation(BUFFER, depth, inside)
-        return self.new_unit(inside) + self.bits()
+        if kind > 4:
+            return self.new_unit(inside) + self.bits()
+        if kind < 3:
+            return (b"\0", b"\1", b"\3")[kind] + (self.bits() if kind == 0 else self.chance.randbytes(kind + 1))
+        return b"\2" + (self.any_name() if kind == 3 else self.operation(BUFFER, depth, inside))
 
     def new_unit(self, inside):
         seg = self.chance.choice(STRANGE_SEGMENTS) if self.is_strange(inside) else self.fresh_segment()

@@ -1,7 +1,7 @@
 """A whole run: what the program prints of some dumps, or of a folder, and its status. After docs/listing.md."""
 
+from collections import namedtuple
 from dataclasses import dataclass, field, fields
-from typing import NamedTuple
 
 import any_run
 from dumps import Bad, aml_of, dump_lines, order_of
@@ -49,12 +49,8 @@ def option_of(name):
     return "--" + name.replace("_", "-")
 
 
-class Outcome(NamedTuple):
-    """The status of a run, and what it writes to standard output and to standard error."""
-
-    status: int | None
-    out: str
-    err: str
+# The status of a run, None where it has none, and what it writes to standard output and to standard error
+Outcome = namedtuple("Outcome", "status out err")
 
 
 def text_of(lines):

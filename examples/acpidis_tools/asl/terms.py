@@ -1,6 +1,7 @@
 """A line of terms of a listing as one of ASL."""
 
 import re
+from collections import namedtuple
 
 from acpidis_tools import aml, standard
 from acpidis_tools.asl import language
@@ -92,14 +93,9 @@ def declared(name, word, count=0):
     return f"External ({name}, {word}{arguments})"
 
 
-class Named:
-    """A name on a line: how many arguments it has there, whether it is a value, and whether ASL has it as a call; of an
-    External's the word of its type."""
-
-    __slots__ = ("name", "count", "is_value", "is_call", "word")
-
-    def __init__(self, name, count=0, is_value=False, is_call=False, word=""):
-        self.name, self.count, self.is_value, self.is_call, self.word = name, count, is_value, is_call, word
+# A name on a line: how many arguments it has there, whether it is a value, and whether ASL has it as a call; of an External's
+# the word of its type
+Named = namedtuple("Named", "name count is_value is_call word", defaults=[0, False, False, ""])
 
 
 class Bracket:
@@ -152,8 +148,6 @@ class Turner:
             raise Misread
         if self.open:
             self.open[-1].is_empty = False
-
-    # ---- brackets and commas
 
     def mark(self, token, is_last):
         if token == "(" or token == "{" and not (is_last and not self.open):
@@ -214,8 +208,6 @@ class Turner:
             raise Misread
         elif inner.word in language.TARGETED or inner.word == "CondRefOf" and inner.place == 0:
             self.tell(f"{inner.word} without a target")
-
-    # ---- what stands between them
 
     def part(self, kind, token, inner):
         if inner.mark == "(" and inner.word in language.SIZED:

@@ -217,9 +217,6 @@ def blocks_html(sheet: Sheet) -> list[str]:
     return [*written, *use_list_html(sheet, writer.uses)]
 
 
-# ---- uses
-
-
 def uses_html(uses: Uses, sheet: Sheet) -> str:
     def number(it: int) -> str:
         return f"<a href=#{it}>{it}</a>" if sheet.shows(it) else f"<span>{it}</span>"

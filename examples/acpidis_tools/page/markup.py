@@ -38,9 +38,6 @@ def raw_list_html(sheet: Sheet) -> list[str]:
     return [f"<section id=raw><details><summary>{head}</summary><ul>\n", *items, "</ul></details></section>\n"]
 
 
-# ---- what no table declares
-
-
 def undeclared_html(sheet: Sheet) -> list[str]:
     """The predefined names that are used, and the names that nothing declares."""
     names = sheet.names
@@ -56,9 +53,6 @@ def undeclared_html(sheet: Sheet) -> list[str]:
     end = "</section>\n"
     written = ["<section id=predefined><h2>Predefined names</h2>\n", *predefined, end]
     return written + ["<section id=strays><h2>Names that nothing declares</h2>\n", *strays, end] if strays else written
-
-
-# ---- the comparison
 
 
 def comparison_html(sheet: Sheet) -> list[str]:
@@ -88,9 +82,6 @@ def comparison_html(sheet: Sheet) -> list[str]:
         head = f"<summary>{counted(len(items), 'path')} that {word}</summary>"
         written += [f"<details{state}>{head}<ul>\n", *items, "</ul></details>\n"]
     return [*written, "</section>\n"]
-
-
-# ---- the page
 
 
 def title_of(listing: Listing) -> str:
