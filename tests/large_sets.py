@@ -3,13 +3,9 @@
 
     python3 tests/large_sets.py [--stop] [PROGRAM]
 
-PROGRAM is out/acpidis if left out. With --stop the first cut that fails ends it. The independent reading of
-tests/oracle says what has to come of 19 tables cut at each byte, of all bodies of two bytes, of 20,000 methods in a
-mixed order with a call of each, and of the most files and bytes. It says it too of blocks outside methods and of a path
-that is declared again and again, with the option --any-run; and by 1, 4 and 64 workers of paths below what only may
-stand, of chains of Aliases, and of Scopes of what is no scope. For a long body, a name of sixteen million `^` and a
-million methods it would take too long: what has to come of these is written down here, after docs/listing.md,
-docs/limits.md and docs/names.md. The last line is 'N passed, N failed'.
+PROGRAM is out/acpidis if left out. With --stop the first run that fails ends it. What has to come of most sets the
+independent reading of tests/oracle says; of a long body, a name of sixteen million `^` and a million methods it is written
+down here, after docs/listing.md, docs/limits.md and docs/names.md. The last line is 'N passed, N failed'.
 """
 
 import concurrent.futures

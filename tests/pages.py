@@ -6,13 +6,10 @@
 A block that begins with ```console has commands behind `$ `, more lines of theirs behind `> `, and below what they
 print. They run in a folder with `mine`, the set of docs/listing.md, whose text is the first block of that page, with
 `boards`, the sets of tests/board.py, and with `examples`; `./acpidis` is the launcher. Then they run once more as the
-commands of an installed program, `acpidis-page` for `examples/page.py`. What README quotes from a source has to stand
-there. README has at most 2,000 words, and docs no more pages and words than they may. Each link leads to a file, and to
-a heading of it. Each contract and definition that docs/work/proofs.md names stands in its crate, each clause that a
-crate's README names too, each wrong body of a file wrong-bodies.goals, and each name of the sources' kind that a page
-marks as code in some source. Then the manual page is looked through by mandoc and groff, each where it is installed,
-and its options and README's are compared with the program's, its words and docs/refusals.md's with the sources'. Last,
-the scripts that the pages speak of are tried, but with --no-scripts. The last line is 'N passed, N failed'.
+commands of an installed program, `acpidis-page` for `examples/page.py`. README and docs have no more pages and words than
+they may. What pages quote, link to or name stands there: sources, headings, contracts, clauses, wrong bodies. The manual page
+is looked through by mandoc and groff, each where it is installed; options and words are compared with the program's and the
+sources'. Last, the scripts that the pages speak of are tried, but with --no-scripts. The last line is 'N passed, N failed'.
 """
 
 import itertools

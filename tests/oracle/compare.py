@@ -8,11 +8,9 @@ Standard output, standard error and the status are compared whole; besides, a ru
 minute in all, and 2 GB. A FOLDER of dumps is compared as it stands, and then damaged copies of it. The first sets that
 differ are kept, and the status is 1. With --with-externals most made-up sets come with a file for the option --externals,
 and with --any-run with code outside methods and this option, which FOLDERs are run with too. With --deep the terms of a
-third of the made-up sets stand in a scope of 100 to 2,000 segments. With --mutated each set has one to four changes more:
-bits, bytes and names; terms that go, come from elsewhere or move, with the lengths around them repaired; lengths; cuts;
-halves of two tables; headers; files. Checksums are repaired most of the time. With --workers each set is run by each of
-these numbers of workers, in place of the one that was made up. With --read no program is run, and it is only said how the
-sets end. The same seed makes the same sets. ./test compares 500 sets of seed 0, and 500 with --any-run.
+third of the made-up sets stand in a deep scope. With --mutated each set has one to four changes more. With --workers each is
+run by each of these numbers of workers. With --read no program is run, and it is only said how the sets end. The same seed
+makes the same sets.
 """
 
 import argparse
