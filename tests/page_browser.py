@@ -12,6 +12,7 @@ and in 5 seconds. It is no part of ./test. The last line is 'N passed, N failed'
 import argparse
 import base64
 import fcntl
+import itertools
 import json
 import os
 import pathlib
@@ -21,8 +22,7 @@ import sys
 import tempfile
 import time
 
-from tally import Tally, parser, run_script, written  # before the others, whose places it tells
-from large_listing import listing
+from tally import TOP, Tally, parser, run_script, written  # before the others, whose places it tells
 from running import Options, run_folder
 from telling import HOSTILE_FILES
 
@@ -363,6 +363,31 @@ def look_at_large(browser: Browser, most: float, file: pathlib.Path, checks: Tal
     last = json.dumps(path.split(".")[2])
     checks.is_so("all of it is text", browser.value(f"{text}.includes('Device (DAAA)') && {text}.includes({last})"))
     check_log(browser, checks)
+
+
+# The lines of a device of a large listing: NAME is its name, @ a digit, and ######## a number.
+DEVICE = (TOP / "tests/large_device.text").read_text()
+KINDS = {
+    "CTRL": "Field", "RDWR": "Method 2", "REGS": "Region", "STAT": "Field", "VDID": "Field", "_ADR": "Name", "_CRS": "Name",
+    "_HID": "Name", "_PS0": "Method 0", "_PS3": "Method 0", "_STA": "Method 0", "_UID": "Name",
+}
+HEAD = 'Table "dsdt.dat" "DSDT" Length {size} Revision 2 Oem "TEST  " "LARGE   " 00000001 Creator "TEST" 00000001\n'
+DIGITS = "ABCDEFGHIJKLMNOPQRSTUVWXYZ_"
+
+
+def listing(size: int) -> str:
+    """A listing of about so many bytes, like that of a large firmware."""
+    one = len(DEVICE) + sum(len(f"  \\_SB_.PCI0.DAAA.{it} {kind}\n") for it, kind in KINDS.items())
+    names = map("".join, itertools.product("DEFGHIJK", *[DIGITS] * 3))
+    rows, blocks = ["  \\_SB_.PCI0 Device\n"], []
+    for number, name in enumerate(itertools.islice(names, max(1, size // one))):
+        rows.append(f"  \\_SB_.PCI0.{name} Device\n")
+        rows += [f"  \\_SB_.PCI0.{name}.{it} {kind}\n" for it, kind in KINDS.items()]
+        device = DEVICE.replace("########", f"{number:08X}").replace("@", str(number % 10))
+        blocks.append(device.replace("NAME", name))
+    text = f"Namespace {len(rows)}\n" + "".join(rows)
+    text += 'DefinitionBlock ("dsdt.dat") {\n  Scope (\\_SB_) {\n    Device (PCI0) {\n' + "".join(blocks) + "    }\n  }\n}\n"
+    return HEAD.format(size=size) + text
 
 
 # A listing with other numbers, in a table too
