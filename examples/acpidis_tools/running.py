@@ -16,7 +16,6 @@ from acpidis_tools.listing import SEGMENT, NoListing, reader_of
 
 LAUNCHER = pathlib.Path(__file__).resolve().parents[2] / "acpidis"
 NAME = re.compile(rf"(\\|\^*)({SEGMENT}(?:\.{SEGMENT})*|)")
-TOKEN = re.compile(r'"[^"]*"|[\\^A-Za-z0-9_.]+|[(){},]')
 # A name is looked for in each scope around it, which a hostile set could make many.
 MOST_SEGMENTS = 64
 MOST_SHOWN = 40
