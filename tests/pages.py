@@ -87,11 +87,6 @@ def commands_of(page):
             yield command + re.sub(r"^> ", "", more, flags=re.MULTILINE), wanted
 
 
-def as_installed(command):
-    """A command of a page as it is where the program is installed."""
-    return re.sub(r"(?:python3 )?\bexamples/(\w+)\.(?:py|sh)\b", r"acpidis-\1", command).replace("./acpidis", "acpidis")
-
-
 def check_commands(checks, page, is_installed):
     """Each command of a page, in its order."""
     commands = list(commands_of(page))
@@ -100,7 +95,9 @@ def check_commands(checks, page, is_installed):
         make_room(pathlib.Path(room), is_installed)
         environment = {**os.environ, "PATH": f"{room}/bin:{os.environ['PATH']}"}
         for command, wanted in commands:
-            command = as_installed(command) if is_installed else command
+            if is_installed:
+                command = re.sub(r"(?:python3 )?\bexamples/(\w+)\.(?:py|sh)\b", r"acpidis-\1", command)
+                command = command.replace("./acpidis", "acpidis")
             printed = printed_by(["sh", "-c", command], cwd=room, env=environment)
             checks.is_so(f"{page}: {command}\nprinted\n{printed}not\n{wanted}", printed == wanted)
 

@@ -125,8 +125,9 @@ class Mutator:
 
     def __init__(self, chance, others):
         self.chance, self.others = chance, others
+        replace = lambda code, layout: replaced(code, layout, self.span(layout), chance.choice(others or [b"\xa3"]))
         self.ways = [
-            self.flip, self.damage, self.cut, self.rename, self.change_term, self.move_term, self.replace_term, self.wrap,
+            self.flip, self.damage, self.cut, self.rename, self.change_term, self.move_term, replace, self.wrap,
             self.change_opcode, self.change_flags, self.change_length, self.stretch_all,
         ]
 
@@ -182,9 +183,6 @@ class Mutator:
         likely = bytes(self.chance.choice(LIKELY_BYTES) for _ in range(self.chance.choice((1, 1, 2, 5))))
         new = self.chance.choice((code[start:end], self.chance.choice(self.others or [b"\xa3"]), likely))
         return replaced(code, layout, self.gap(layout), new)
-
-    def replace_term(self, code, layout):
-        return replaced(code, layout, self.span(layout), self.chance.choice(self.others or [b"\xa3"]))
 
     def wrap(self, code, layout):
         """A term within Ifs, or within LNots."""

@@ -47,11 +47,6 @@ def is_open_alias(kind):
     return kind[0] == "Alias" and kind[2]
 
 
-def made_counts(chance):
-    """What Externals say of some paths."""
-    return [(chance.choice(PATHS), chance.randrange(3)) for _ in range(chance.choice((0, 0, 1, 3)))]
-
-
 def space_of(declarations, externals):
     space = RunNamespace()
     for path, kind, is_sure in declarations:
@@ -62,8 +57,12 @@ def space_of(declarations, externals):
 
 
 def runs_of(declarations, externals):
-    """The namespaces of all runs."""
-    for kinds in itertools.product(*(kept_as(kind, is_sure) for _, kind, is_sure in declarations)):
+    """The namespaces of all runs, each of which keeps a declaration as one of some kinds, or leaves it out if that is unsure."""
+    kept = []
+    for _, kind, is_sure in declarations:
+        aims = [("Alias", path) for path in PATHS] if is_open_alias(kind) else [kind[:2]]
+        kept.append(aims if is_sure else [None, *aims])
+    for kinds in itertools.product(*kept):
         run = Namespace()
         for (path, _, _), kind in zip(declarations, kinds):
             if kind:
@@ -71,12 +70,6 @@ def runs_of(declarations, externals):
         for path, count in externals:
             run.add_external(path, count)
         yield run
-
-
-def kept_as(kind, is_sure):
-    """The kinds that a run may keep a declaration as; None is one that leaves it out."""
-    kinds = [("Alias", path) for path in PATHS] if is_open_alias(kind) else [kind[:2]]
-    return kinds if is_sure else [None, *kinds]
 
 
 def found_count(run, scope, name, local):
@@ -115,7 +108,10 @@ def main():
     asked = words.parse_args()
     chance, failed = random.Random(asked.seed), 0
     for _ in range(asked.lists):
-        fails = list(fails_of(made_declarations(chance), made_counts(chance)))
+        declarations = made_declarations(chance)
+        # What Externals say of some paths
+        counts = [(chance.choice(PATHS), chance.randrange(3)) for _ in range(chance.choice((0, 0, 1, 3)))]
+        fails = list(fails_of(declarations, counts))
         failed += bool(fails)
         for fail in fails[:1]:
             print(f"FAILED {fail}")
