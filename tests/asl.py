@@ -5,10 +5,9 @@
 
 Of sample sets, of N made-up sets of which ASL has each term, 200 if left out, and of each FOLDER of dumps, asl.py makes
 ASL of the listing. Where iasl is there it compiles each block of which nothing is told, which has to give the dump's
-bytes again. Each spelling that ASL hasn't got is told. 150 methods, grown by 1 to 70,000 bytes, are put into their
-dumps by splice.py: acpidis reads those, and the listings differ in the lines that are new. unpack.py takes texts, files
-and images apart, as acpixtract does where that is there. show.py shows what is at a path. With --stop the first row
-that fails ends it. The last line is 'N passed, N failed'.
+bytes again. 150 methods, grown by 1 to 70,000 bytes, are put into their dumps by splice.py: the listings differ in the
+lines that are new. unpack.py does as acpixtract does, where that is there. With --stop the first row that fails ends it.
+The last line is 'N passed, N failed'.
 """
 
 import concurrent.futures
