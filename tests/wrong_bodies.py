@@ -39,7 +39,6 @@ import sys
 import tempfile
 
 import tally
-from tally import module_of
 
 TOP = str(tally.TOP)
 FUNCTION = re.compile(r"( {4})?(?:pub(?:\(\w+\))? )?(?:(?:const|final|unsafe|ghost) )*fn (\w+)")
@@ -65,7 +64,7 @@ Verdict = collections.namedtuple("Verdict", "kind reason")
 def kit():
     """The kit's library, which says how a crate is checked: it lies beside the command rt."""
     command = shutil.which("rt") or sys.exit("the Rattle kit isn't there: its command rt has to be on the PATH")
-    return module_of("rtlib", os.path.join(os.path.dirname(os.path.realpath(command)), "rtlib.py"))
+    return tally.module_of("rtlib", os.path.join(os.path.dirname(os.path.realpath(command)), "rtlib.py"))
 
 
 def read(file):

@@ -47,6 +47,7 @@ STATEMENTS = {
 LONGEST_STATEMENT = 1_000
 SEGMENT, SPEED = re.compile(r"[A-Z_][A-Z0-9_]{0,3}"), re.compile(r"([0-9]+) (?:Hz|baud)")
 INTERRUPTS = ("IRQ", "IRQNoFlags", "Interrupt", "GpioInt")
+TOKEN = re.compile(r'"[^"]*"|[(){},]|[^"(){},]+')
 
 
 def small(number: int | None) -> int | None:
@@ -406,16 +407,10 @@ def number_in(text: str) -> int:
 def argument_texts(line: Line) -> list[str]:
     """The texts of the arguments of a line's term."""
     parts, depth = [""], 0
-    for at, piece in enumerate(line.pieces[2:]):
-        if at % 2:
-            parts[-1] += piece
-            continue
-        for char in piece:
-            depth += (char in "({") - (char in ")}")
-            if char == "(" and depth == 1:
-                continue
-            if char == "," and depth == 1:
-                parts.append("")
-            elif depth:
-                parts[-1] += char
+    for token in TOKEN.findall("".join(line.pieces[2:])):
+        depth += (token in "({") - (token in ")}")
+        if token == "," and depth == 1:
+            parts.append("")
+        elif depth and (token, depth) != ("(", 1):
+            parts[-1] += token
     return [part.strip() for part in parts]
