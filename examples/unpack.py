@@ -17,7 +17,6 @@ import os
 import pathlib
 import re
 import shutil
-import sys
 import tempfile
 
 from acpidis_tools import command

@@ -15,7 +15,6 @@ import random
 import re
 import resource
 import subprocess
-import sys
 import tempfile
 
 # Before the others, whose places it tells

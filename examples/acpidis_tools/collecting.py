@@ -7,7 +7,7 @@ import re
 from collections import defaultdict
 
 from acpidis_tools.comparison import Said, text_of, texts_of
-from acpidis_tools.decoding import Decoder, Template, flag_words, hardware_name
+from acpidis_tools.decoding import Decoder, flag_words, hardware_name
 from acpidis_tools.errors import Fault
 from acpidis_tools.identifiers import eisa_number
 from acpidis_tools.listing import Block, Dump, Line, Listing, Path, path_of, path_text

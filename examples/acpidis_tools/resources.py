@@ -10,7 +10,6 @@ from acpidis_tools.standard import space_name
 # Where the content of a descriptor begins.
 SMALL, LARGE = 1, 3
 END = 0x0F
-NOWHERE = 0xFFFF
 
 
 class Descriptor(NamedTuple):
