@@ -4,9 +4,9 @@
 usage: bench/figures.py [ACPIDIS] [--only WORD] [--runs N] [--seconds N] [--print]
 
 ACPIDIS is the built program, out/acpidis if left out. iasl and GNU time have to be there (Debian: apt-get install
-acpica-tools time). Each program runs N times, 5 if left out, and the shortest time counts; its peak memory is that of one
-more run. A run is stopped after so many seconds, 60 if left out. With --print, or where --only leaves sets out, nothing is
-written but the section to standard output.
+acpica-tools time). Each program runs N times, 5 if left out, and the shortest time counts; its peak memory is that of
+one more run. A run is stopped after so many seconds, 60 if left out. With --print, or where --only leaves sets out,
+nothing is written but the section to standard output.
 
 The sets:
   10 KB, 40 KB, 1 MB  one table each, compiled by iasl from devices with resources, fields and methods as firmware has

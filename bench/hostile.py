@@ -4,17 +4,18 @@
 usage: bench/hostile.py [ACPIDIS] [--only WORD] [--keep FOLDER] [--runs N] [--seconds N] [--large] [--no-iasl]
                         [--instructions]
 
-ACPIDIS is the built program, out/acpidis if left out. For each shape one line is printed: its size; the shortest time of
-N runs, 3 if left out, at the whole size; the most memory; how many times as much processor time and memory it takes as
-at half the size; how much text that is; the status; the same of `--check`; and for sets of one table, where it is
-installed (Debian: apt-get install acpica-tools) and answers within 20 seconds, the time of `iasl -d`. A run is stopped
-after so many seconds, 120 if left out. --large adds 512 files of 16 MB each, for which the program needs 9 GB.
+ACPIDIS is the built program, out/acpidis if left out. For each shape one line is printed: its size; the shortest time
+of N runs, 3 if left out, at the whole size; the most memory; how many times as much processor time and memory it
+takes as at half the size; how much text that is; the status; the same of `--check`; and for sets of one table, where
+it is installed (Debian: apt-get install acpica-tools) and answers within 20 seconds, the time of `iasl -d`. A run is
+stopped after so many seconds, 120 if left out. --large adds 512 files of 16 MB each, for which the program needs 9
+GB.
 
 With --instructions the growth is of the instructions that one worker needs, by valgrind, in place of the processor
 time. They don't depend on what else the machine does; the runs take some fifty times as long, so name a shape.
 
-A shape's time should grow no more than 2.4 times; where it does, the line ends with GROWS. The shapes with `*` may take
-4.4 times as much: docs/limits.md says which two dimensions grow together in them.
+A shape's time should grow no more than 2.4 times; where it does, the line ends with GROWS. The shapes with `*` may
+take 4.4 times as much: docs/limits.md says which two dimensions grow together in them.
 """
 import os
 import pathlib

@@ -229,7 +229,7 @@ def machines_of(asked: argparse.Namespace) -> Iterator[Machine]:
 
 
 class Processes:
-    """Processes that read listings; for one job there is none. Where one is ended, the others are, and new ones take their
+    """Processes that read listings; for one job there is none. Where one is ended, all are, and new ones take their
     place."""
 
     def __init__(self, jobs: int):

@@ -233,7 +233,8 @@ def say_counts(found, reader, uses):
             yield f"  nothing tells of {use.name} before it; a Method of {counted(count)} may stand at offset {at}"
             # As a line for --externals wants it: the root's is found from each scope
             place = found.space.place(found.space.root if use.name.is_searched() else use.scope, use.name)
-            yield f"  a line `{path_of(place) if place else '?'} {count}` in the file of --externals would tell it"
+            path = path_of(place) if place else "?"
+            yield f"  a line `{path} {count}` in the file of --externals would tell it"
 
 
 def say_duplicate(found, refusal):

@@ -29,8 +29,9 @@ class Refused(Exception):
     """Why there is no patched table."""
 
 
-# Where a path is declared: the term's word, its first byte, the byte behind its name, and the one behind it; the path of the
-# scope that it stands in, and the package lengths around it, the outer first, with its own where it has one
+# Where a path is declared: the term's word, its first byte, the byte behind its name, and the one
+# behind it; the path of the scope that it stands in, and the package lengths around it, the outer
+# first, with its own where it has one
 Place = namedtuple("Place", "word start named end scope lengths")
 
 

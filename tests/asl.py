@@ -3,11 +3,11 @@
 
     python3 tests/asl.py [--sets N] [--stop] [FOLDER ..]
 
-Of sample sets, of N made-up sets of which ASL has each term, 200 if left out, and of each FOLDER of dumps, asl.py makes
-ASL of the listing. Where iasl is there it compiles each block of which nothing is told, which has to give the dump's
-bytes again. 150 methods, grown by 1 to 70,000 bytes, are put into their dumps by splice.py: the listings differ in the
-lines that are new. unpack.py does as acpixtract does, where that is there. With --stop the first row that fails ends it.
-The last line is 'N passed, N failed'.
+Of sample sets, of N made-up sets of which ASL has each term, 200 if left out, and of each FOLDER of dumps, asl.py
+makes ASL of the listing. Where iasl is there it compiles each block of which nothing is told, which has to give the
+dump's bytes again. 150 methods, grown by 1 to 70,000 bytes, are put into their dumps by splice.py: the listings
+differ in the lines that are new. unpack.py does as acpixtract does, where that is there. With --stop the first row
+that fails ends it. The last line is 'N passed, N failed'.
 """
 
 import concurrent.futures
@@ -22,7 +22,8 @@ import shutil
 import subprocess
 import tempfile
 
-from tally import DEMO, PROGRAM, TOP, Stopped, Tally, parser, run_script, written  # before the others, whose places it tells
+# Before the others, whose places it tells
+from tally import DEMO, PROGRAM, TOP, Stopped, Tally, parser, run_script, written
 import board
 import splice
 from acpidis_tools.asl.blocks import Block, Reader
@@ -404,7 +405,8 @@ def check_splice(checks):
         said = splice.spelled(1 << 28, 1)
     except splice.Refused as fault:
         said = str(fault)
-    checks.is_same("a length that no longer fits", said, "a package would be longer than a package length can say")
+    wanted = "a package would be longer than a package length can say"
+    checks.is_same("a length that no longer fits", said, wanted)
     (checks.room / old).write_bytes(sealed(files["old"][:24] + b"\xFF" * 4 + files["old"][28:]))
     said = "splice: the OEM revision can't be raised: it is FFFFFFFF\n"
     checks.says("the last revision", [SPLICE, "--oem-revision", old, new, "NAM1"], 1, said)

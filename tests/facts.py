@@ -78,10 +78,8 @@ class Read:
     def told(self, table: str, columns: str) -> list:
         """Some columns of each row, with the paths of methods and names in place of their numbers."""
         shown = {"method": self.methods, "name": self.paths}
-        return [
-            tuple(shown[column].get(row[column]) if column in shown else row[column] for column in columns.split())
-            for row in self.of(table)
-        ]
+        told = lambda row, column: shown[column].get(row[column]) if column in shown else row[column]
+        return [tuple(told(row, column) for column in columns.split()) for row in self.of(table)]
 
 
 def check_set(checks: Tally, what: str, folder: pathlib.Path, options: Options, outcome: Outcome) -> None:

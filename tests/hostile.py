@@ -121,7 +121,8 @@ def check_texts(checks: Tally, room: pathlib.Path) -> None:
                 made = {"facts.py": room / "facts", "asl.py": room / "asl"}.get(script)
                 spoken.update([script] if printed.tell() or made and made.exists() else [])
             # It took its text, or said in a line why not.
-            is_word = said.startswith(f"{script.removesuffix('.py')}: ") and said.count("\n") == 1 and len(said) < 500
+            is_line = said.count("\n") == 1 and len(said) < 500
+            is_word = is_line and said.startswith(f"{script.removesuffix('.py')}: ")
             is_good = status in (0, 3) or status in (1, 2) and is_word
             checks.is_so(f"{script}, {what}: status {status}, {said[:500]}", is_good)
             checks.is_so(f"{script}, {what}: {seconds:.1f} seconds", seconds < SECONDS)

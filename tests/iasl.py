@@ -202,6 +202,7 @@ TEXTS = {
     "IO": io, "FixedIO": fixed, "Memory32Fixed": fixed, "Memory24": memory, "Memory32": memory, "Register": register,
     "GpioInt": gpio, "GpioIo": gpio,
     "SpiSerialBus": lambda it: (
-        f"{it.kind} 0x{it.numbers[0]:04X} {it.numbers[2]} Hz {it.numbers[1]} bits", *sorted(it.words, key=SPI_ORDER.index),
+        f"{it.kind} 0x{it.numbers[0]:04X} {it.numbers[2]} Hz {it.numbers[1]} bits",
+        *sorted(it.words, key=SPI_ORDER.index),
     ),
 }  # fmt: skip

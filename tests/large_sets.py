@@ -1,11 +1,12 @@
 #!/usr/bin/env python3
-"""Runs acpidis over sets that are too many or too large for worked examples, and compares text, error lines and status.
+"""Runs acpidis over sets that are too many or too large for worked examples, and compares text, error lines and
+status.
 
     python3 tests/large_sets.py [--stop] [PROGRAM]
 
 PROGRAM is out/acpidis if left out. With --stop the first run that fails ends it. What has to come of most sets the
-independent reading of tests/oracle says; of a long body, a name of sixteen million `^` and a million methods it is written
-down here, after docs/listing.md, docs/limits.md and docs/names.md. The last line is 'N passed, N failed'.
+independent reading of tests/oracle says; of a long body, a name of sixteen million `^` and a million methods it is
+written down here, after docs/listing.md, docs/limits.md and docs/names.md. The last line is 'N passed, N failed'.
 """
 
 import concurrent.futures
@@ -83,7 +84,8 @@ def difference_of(program, trial):
     """What a run differs in first from how it has to end, if it does; and its status."""
     with tempfile.TemporaryDirectory() as room:
         folder = written(pathlib.Path(room, "set"), trial.files)
-        got, wanted = run_program(program, folder, trial.options), trial.wanted or run_folder(folder, trial.options)
+        got = run_program(program, folder, trial.options)
+        wanted = trial.wanted or run_folder(folder, trial.options)
     return None if got == wanted else first_difference(got, wanted)[:MOST_SHOWN], got.status
 
 
@@ -296,8 +298,9 @@ def the_most_methods():
     """The limit is met before the place of a name is looked at. A set has one limit, whichever tables have the methods."""
     code = b"".join(b"\x14\x06%s\0" % name.encode() for name in ascending(MOST_METHODS))
     most, above, more = one(code), b"\x14\x07^ABCD\0", b"\x14\x06ZZZZ\0"
-    yield Trial("the most methods", most, LIST, Outcome(DONE, "".join(lines_of_empty_methods(MOST_METHODS)), ""))
-    yield Trial("the most methods", most, CHECK, Outcome(DONE, check_line(BLOCK, len(code), MOST_METHODS, 0), ""))
+    text, checked = "".join(lines_of_empty_methods(MOST_METHODS)), check_line(BLOCK, len(code), MOST_METHODS, 0)
+    yield Trial("the most methods", most, LIST, Outcome(DONE, text, ""))
+    yield Trial("the most methods", most, CHECK, Outcome(DONE, checked, ""))
     for name, files, fault in [
         ("a method too many", one(code + more), "TooManyMethods"),
         ("a method too many in an SSDT", {**most, "ssdt1.dat": table(b"SSDT", more)}, "TooManyMethods"),

@@ -3,11 +3,12 @@
 
     python3 tests/library_c.py [--sets N] [--cost] [PROGRAM] [FOLDER ..]
 
-PROGRAM is out/acpidis if left out, and each FOLDER is a folder of dumps of your own, or one that holds such folders. The
-library is linked of crates/acpidis_c, which is built first where that is needed. The example of the manual page and the calls
-of tests/library_c.c are compiled by gcc and clang, without a warning, and run plainly, under valgrind and with the address
-sanitizer. Python loads made-up sets of tests/oracle, with the options that come with each. A tool that isn't there is a row
-that fails. With --cost it is only said what calls take beside the program. The last line is 'N passed, M failed'.
+PROGRAM is out/acpidis if left out, and each FOLDER is a folder of dumps of your own, or one that holds such folders.
+The library is linked of crates/acpidis_c, which is built first where that is needed. The example of the manual page
+and the calls of tests/library_c.c are compiled by gcc and clang, without a warning, and run plainly, under valgrind
+and with the address sanitizer. Python loads made-up sets of tests/oracle, with the options that come with each. A
+tool that isn't there is a row that fails. With --cost it is only said what calls take beside the program. The last
+line is 'N passed, M failed'.
 """
 
 import ast

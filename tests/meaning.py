@@ -3,11 +3,12 @@
 
     python3 tests/meaning.py [--write]
 
-The page has the definitions that `Means` and `Shows` of crates/acpidis/specs/Meaning.antt are made of, each before what it
-is made of, and each type of the sources behind the definition that names it first. Definitions that share a comment stay
-together. What only --any-run adds stands apart, cut off at the names of ADDED, and so does what PRINTED names. The head of
-the page is tests/meaning_words.md: each word of the kit's library that the definitions name has to stand in its last table,
-and no other. Without --write the page is compared with docs/meaning.md. The last line is 'N passed, N failed'.
+The page has the definitions that `Means` and `Shows` of crates/acpidis/specs/Meaning.antt are made of, each before
+what it is made of, and each type of the sources behind the definition that names it first. Definitions that share a
+comment stay together. What only --any-run adds stands apart, cut off at the names of ADDED, and so does what PRINTED
+names. The head of the page is tests/meaning_words.md: each word of the kit's library that the definitions name has to
+stand in its last table, and no other. Without --write the page is compared with docs/meaning.md. The last line is 'N
+passed, N failed'.
 """
 
 import re

@@ -336,8 +336,10 @@ def look_narrow(browser: Browser, checks: Tally) -> None:
 def look_at_comparison(browser: Browser, url: str, checks: Tally) -> None:
     browser.open(url)
     for what, marks in (
-        ("lines that differ are marked", ".block .differs, .block .changed"), ("tables that differ", "#tables .differs"),
-        ("what the other has is shown", "#comparison ins"), ("and what this one has", "#comparison del"),
+        ("lines that differ are marked", ".block .differs, .block .changed"),
+        ("tables that differ are marked", "#tables .differs"),
+        ("what the other has is shown", "#comparison ins"),
+        ("and what this one has", "#comparison del"),
     ):
         checks.is_so(what, browser.value(f"document.querySelectorAll({json.dumps(marks)}).length") > 0)
     check_log(browser, checks)

@@ -28,8 +28,9 @@ class Element:
 
     def text(self) -> str:
         """Its text, without that of notes and of what is said of numbers."""
-        shown = (it if isinstance(it, str) else "" if it.is_note() or it.tag == "small" else it.text() for it in self.inside)
-        return "".join(shown)
+        left_out = lambda it: isinstance(it, Element) and (it.is_note() or it.tag == "small")
+        shown = [it for it in self.inside if not left_out(it)]
+        return "".join(it if isinstance(it, str) else it.text() for it in shown)
 
     def is_note(self) -> bool:
         return self.found.get("class") == "note"
@@ -56,8 +57,8 @@ class Tree(HTMLParser):
 
 
 class Read:
-    """What a page has: its elements, anchors and links, the rows of its tree, and of the definition blocks the lines, the
-    names with what each is, and the lines in which a path is used."""
+    """What a page has: its elements, anchors and links, the rows of its tree, and of the definition blocks the
+    lines, the names with what each is, and the lines in which a path is used."""
 
     def __init__(self, page: Element):
         parts = list(page.all())
@@ -70,8 +71,8 @@ class Read:
         sections = [(it.found.get("class") or it.found["id"], it) for it in parts if it.tag == "section"]
         for line in (line for kind, it in sections if kind == "block" for line in it.all("p", "summary")):
             self.read_line(line)
-        entries = [entry for kind, it in sections if kind == "uses" for entry in it.all("div")]
-        self.uses = {(entry.found["id"], link.found["href"][1:]) for entry in entries for ul in entry.all("ul") for link in ul.all("a")}
+        lists = [(entry, ul) for kind, it in sections if kind == "uses" for entry in it.all("div") for ul in entry.all("ul")]
+        self.uses = {(entry.found["id"], link.found["href"][1:]) for entry, ul in lists for link in ul.all("a")}
         self.cells = [cell.text() for kind, it in sections if kind == "tables" for cell in it.all("td")]
 
     def read_line(self, line: Element) -> None:

@@ -3,11 +3,12 @@
 
     python3 tests/stubs.py [WORD..]
 
-Each runs in a copy of the repository in which what it tests is a stub: a program that refuses everything, one that prints
-nothing, and one that prints the same text always, all of which know their version and the demo, so that no script ends before
-it begins. Each script has to end with another status than 0, and where it prints a last line of counts, some have failed. The
-other trials are a machine without a C compiler, empty files, a wrong independent reading, and a `rt` that proves nothing. With
-words only the trials with one of them in their names are made. The last line is 'N passed, N failed'.
+Each runs in a copy of the repository in which what it tests is a stub: a program that refuses everything, one that
+prints nothing, and one that prints the same text always, all of which know their version and the demo, so that no
+script ends before it begins. Each script has to end with another status than 0, and where it prints a last line of
+counts, some have failed. The other trials are a machine without a C compiler, empty files, a wrong independent
+reading, and a `rt` that proves nothing. With words only the trials with one of them in their names are made. The last
+line is 'N passed, N failed'.
 """
 
 import concurrent.futures

@@ -356,15 +356,12 @@ class Reader:
     def block(self, term, at, end, level):
         outside = self.scope
         if term.word == "Scope":
-            self.open_scope(term)
+            found, place = self.want(term)
+            self.scope = found or place or outside
         elif term.word in OPENERS:
             self.scope = self.declared(term, term.names()[0]) or outside
         term.tail = self.terms(at, end, level + 1)
         self.scope = outside
-
-    def open_scope(self, term):
-        found, place = self.want(term)
-        self.scope = found or place or self.scope
 
     def want(self, term):
         """What the first name of a Scope or an Alias leads to, and its place."""

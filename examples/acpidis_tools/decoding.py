@@ -123,8 +123,10 @@ class Decoder:
 
     def buffers(self, line: Line) -> list[Term]:
         """The buffers of which all bytes stand in the line."""
-        found = [term for term, _ in places(self.terms(line)) if term.word == "Buffer"] if "Buffer" in line.pieces else []
-        found = [term for term in found if isinstance(term.braced, bytes) and term.arguments and term.arguments[0]]
+        if "Buffer" not in line.pieces:
+            return []
+        found = [term for term, _ in places(self.terms(line)) if isinstance(term.braced, bytes)]
+        found = [term for term in found if term.word == "Buffer" and term.argument(0)]
         return [term for term in found if term.arguments[0].number == len(term.braced)]
 
     def templates(self, line: Line) -> list[Template]:

@@ -215,7 +215,8 @@ def gpio(data: Bytes) -> Descriptor:
 
 def with_pins(kind: str, data: Bytes, words: tuple[str, ...], places: tuple[int, int], source: int) -> Descriptor:
     """A descriptor whose pins stand between two offsets, and its source at another one."""
-    return Descriptor(kind, lines=pins(data, *places), words=flags(*words), source=data.text(data.number(source, 2)))
+    device = data.text(data.number(source, 2))
+    return Descriptor(kind, lines=pins(data, *places), words=flags(*words), source=device)
 
 
 def shared(data: Bytes) -> str:
@@ -261,8 +262,8 @@ SMALLS = {
     0x0E: (0, 7, lambda it: Descriptor("VendorShort", words=(f"{len(it.data) - SMALL} bytes",))),
 }
 LARGES = {
-    0x01: (9, 9, lambda it: memory("Memory24", it, 2, 8)), 0x05: (17, 17, lambda it: memory("Memory32", it, 4, 0)),
-    0x02: (12, 12, register), 0x07: (23, ANY, address_space("DWord", 4)),
+    0x01: (9, 9, lambda it: memory("Memory24", it, 2, 8)), 0x02: (12, 12, register),
+    0x05: (17, 17, lambda it: memory("Memory32", it, 4, 0)), 0x07: (23, ANY, address_space("DWord", 4)),
     0x08: (13, ANY, address_space("Word", 2)), 0x09: (6, ANY, interrupt), 0x0A: (43, ANY, address_space("QWord", 8)),
     0x0B: (53, 53, address_space("Extended", 8)), 0x0C: (20, ANY, gpio), 0x0E: (9, ANY, serial_bus),
     0x0D: (

@@ -187,7 +187,8 @@ OF_BYTES = {
 # To rows of a path, by the namespace; a declared path has a segment at least, and so is found by a comparison.
 OF_PATH = {
     "declared": lambda names, path: [
-        f"{'declared' if path in names.declarations else 'not declared'}, {'sure' if names.is_sure(path) else 'not sure'}"
+        ("declared, " if path in names.declarations else "not declared, ")
+        + ("sure" if names.is_sure(path) else "not sure")
     ],
     "scope": lambda names, path: ["a scope" if names.is_sure(path) and names.is_scope(path) else "no scope"],
     "alias": lambda names, path: ["open" if names.alias_of(path)[2] else "not open"],

@@ -1,16 +1,17 @@
 #!/usr/bin/env python3
-"""Compares what acpidis prints with an independent reading, over folders that are made up near the grammar and then damaged.
+"""Compares what acpidis prints with an independent reading, over folders that are made up near the grammar and then
+damaged.
 
     python3 tests/oracle/compare.py [--seconds N | --sets N] [--seed N] [--with-externals] [--any-run] [--workers N,N..]
         [--deep] [--mutated] [--read] [FOLDER ..]
 
-Standard output, standard error and the status are compared whole; besides, a run may take 10 seconds of processor time, a
-minute in all, and 2 GB. A FOLDER of dumps is compared as it stands, and then damaged copies of it. The first sets that
-differ are kept, and the status is 1. With --with-externals most made-up sets come with a file for the option --externals,
-and with --any-run with code outside methods and this option, which FOLDERs are run with too. With --deep the terms of a
-third of the made-up sets stand in a deep scope. With --mutated each set has one to four changes more. With --workers each is
-run by each of these numbers of workers. With --read no program is run, and it is only said how the sets end. The same seed
-makes the same sets.
+Standard output, standard error and the status are compared whole; besides, a run may take 10 seconds of processor
+time, a minute in all, and 2 GB. A FOLDER of dumps is compared as it stands, and then damaged copies of it. The first
+sets that differ are kept, and the status is 1. With --with-externals most made-up sets come with a file for the
+option --externals, and with --any-run with code outside methods and this option, which FOLDERs are run with too. With
+--deep the terms of a third of the made-up sets stand in a deep scope. With --mutated each set has one to four changes
+more. With --workers each is run by each of these numbers of workers. With --read no program is run, and it is only
+said how the sets end. The same seed makes the same sets.
 """
 
 import argparse

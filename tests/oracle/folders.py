@@ -1,5 +1,5 @@
-"""The dumps of a folder after docs/tables.md: its regular files, and the addresses that its map gives them. And the file that
-`--externals` names: how many arguments paths take that no table says anything of."""
+"""The dumps of a folder after docs/tables.md: its regular files, and the addresses that its map gives them. And the
+file that `--externals` names: how many arguments paths take that no table says anything of."""
 
 import os
 import re

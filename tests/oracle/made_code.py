@@ -299,12 +299,12 @@ class Maker:
         return code
 
     def unit(self, depth, inside):
-        kind = self.chance.randrange(8)
-        if kind > 4:
-            return self.new_unit(inside) + self.bits()
-        if kind < 3:
-            return (b"\0", b"\1", b"\3")[kind] + (self.bits() if kind == 0 else self.chance.randbytes(kind + 1))
-        return b"\2" + (self.any_name() if kind == 3 else self.operation(BUFFER, depth, inside))
+        makers = {
+            0: lambda: b"\0" + self.bits(), 1: lambda: b"\1" + self.chance.randbytes(2),
+            2: lambda: b"\3" + self.chance.randbytes(3), 3: lambda: b"\2" + self.any_name(),
+            4: lambda: b"\2" + self.operation(BUFFER, depth, inside),
+        }
+        return makers.get(self.chance.randrange(8), lambda: self.new_unit(inside) + self.bits())()
 
     def new_unit(self, inside):
         seg = self.chance.choice(STRANGE_SEGMENTS) if self.is_strange(inside) else self.fresh_segment()

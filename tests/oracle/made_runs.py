@@ -280,7 +280,8 @@ class RunMaker(Maker):
         """Two branches with a method of one path, an Alias of it, and what calls this one."""
         name, count = self.fresh_name("table"), self.chance.choice(ARGUMENT_COUNTS)
         other = self.same_or_other(count)
-        code = self.maybe(self.sure_method, name, count) + self.packed(b"\xA1", self.maybe(self.sure_method, name, other))
+        code = self.maybe(self.sure_method, name, count)
+        code += self.packed(b"\xA1", self.maybe(self.sure_method, name, other))
         alias = self.fresh()
         code += self.alias(name, alias)
         return code + self.caller(depth, alias, (count, other))

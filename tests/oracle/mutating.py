@@ -2,6 +2,7 @@
 
 import functools
 import re
+from collections import namedtuple
 from dataclasses import dataclass, field
 from typing import NamedTuple
 
@@ -14,9 +15,7 @@ SEGMENT = re.compile(rb"[A-Z_][A-Z0-9_]{3}")
 OPCODES = [bytes([opcode]) if opcode < 256 else opcode.to_bytes(2, "big") for opcode in ROWS]
 
 
-class Span(NamedTuple):
-    start: int
-    end: int
+Span = namedtuple("Span", "start end")
 
 
 class Package(NamedTuple):

@@ -57,7 +57,7 @@ def space_of(declarations, externals):
 
 
 def runs_of(declarations, externals):
-    """The namespaces of all runs, each of which keeps a declaration as one of some kinds, or leaves it out if that is unsure."""
+    """The namespaces of all runs: each keeps a declaration as one of some kinds, or leaves an unsure one out."""
     kept = []
     for _, kind, is_sure in declarations:
         aims = [("Alias", path) for path in PATHS] if is_open_alias(kind) else [kind[:2]]

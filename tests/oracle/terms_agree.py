@@ -3,15 +3,16 @@
 
     python3 tests/oracle/terms_agree.py [--counts N] [--seed N] [--read] [--program PROGRAM]
 
-All runs of a few terms are made here, as an interpreter would run them: a declaration is passed over, with all that stands
-inside, where its path is there already, or the path above it isn't; an Alias too where its source isn't; a Scope where its
-path isn't, or is of another kind than a scope's, but one of a Name may run; and of a block the first terms run, up to all, or
-none.
+All runs of a few terms are made here, as an interpreter would run them: a declaration is passed over, with all that
+stands inside, where its path is there already, or the path above it isn't; an Alias too where its source isn't; a
+Scope where its path isn't, or is of another kind than a scope's, but one of a Name may run; and of a block the first
+terms run, up to all, or none.
 
-Behind the terms stand methods that ask: in the body of each a name, now and then behind a local path, and seven values, so
-that the text tells how many of them the name takes. This count it has in each run that finds something for it. Besides, what a
-run declares stands in the namespace, and what is no Maybe there stands in each run. With --read the independent reading is
-tried in place of the program. What is counted are the counts of names in runs. The last line is 'N passed, N failed'.
+Behind the terms stand methods that ask: in the body of each a name, now and then behind a local path, and seven
+values, so that the text tells how many of them the name takes. This count it has in each run that finds something for
+it. Besides, what a run declares stands in the namespace, and what is no Maybe there stands in each run. With --read
+the independent reading is tried in place of the program. What is counted are the counts of names in runs. The last
+line is 'N passed, N failed'.
 """
 
 import argparse

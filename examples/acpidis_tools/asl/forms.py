@@ -30,7 +30,8 @@ class Reader(aml.Reader):
     def name(self, at, end):
         name, after = super().name(at, end)
         count, text = len(name.segments), str(name)
-        self.names.append(after - at > name.root + name.ups + 4 * count + (1 if count in (0, 2) else 2 * (count > 2)))
+        lead = 1 if count in (0, 2) else 2 * (count > 2)
+        self.names.append(after - at > name.root + name.ups + 4 * count + lead)
         if text:
             said, self.arguments = next(self.said, None) or ("", 0)
             if said != text:
@@ -76,7 +77,8 @@ def told(folder, blocks):
         reader = Reader(code, block.said, block.bodies)
         at = reader.read()
         if at < len(code) or next(reader.said, None):
-            command.leave(f"asl: {os.fsdecode(path)!r} isn't the dump of this listing: they differ at byte {at + 36}")
+            where = f"they differ at byte {at + 36}"
+            command.leave(f"asl: {os.fsdecode(path)!r} isn't the dump of this listing: {where}")
         forms = {"lengths": reader.lengths, "names": reader.names}
         what = ", ".join(f"{sum(it)} of {len(it)} {word}" for word, it in forms.items() if any(it))
         if what:

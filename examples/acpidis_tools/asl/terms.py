@@ -92,8 +92,8 @@ def declared(name, word, count=0):
     return f"External ({name}, {word}{arguments})"
 
 
-# A name on a line: how many arguments it has there, whether it is a value, and whether ASL has it as a call; of an External's
-# the word of its type
+# A name on a line: how many arguments it has there, whether it is a value, and whether ASL has it as
+# a call; of an External's the word of its type
 Named = namedtuple("Named", "name count is_value is_call word", defaults=[0, False, False, ""])
 
 
@@ -188,7 +188,8 @@ class Turner:
         if (part.word, part.place) == ("Name", 1):
             self.tell("a name as the value of a Name")
         is_call = bool(term.arguments)
-        self.names.append(Named(token, len(term.arguments), is_call or part.mark == "(" and part.kind == "T", is_call))
+        is_value = is_call or (part.mark, part.kind) == ("(", "T")
+        self.names.append(Named(token, len(term.arguments), is_value, is_call))
         return plain(token, self.tell)
 
     def check(self, token, part):

@@ -66,12 +66,14 @@ def comparison_html(sheet: Sheet) -> list[str]:
     for path, text in found.adds.items():
         # It may be predefined here, or an External's, and then has its anchor.
         has_anchor = path in PREDEFINED or path in sheet.names.externals
-        head = f"<details{'' if has_anchor else f' id={path_text(path)}'}><summary>{path_text(path)}</summary>"
-        adds.append(f"<li class=added>{head}<pre>{escape(chr(10).join(text))}</pre></details></li>\n")
+        anchor = "" if has_anchor else f" id={path_text(path)}"
+        head, shown = f"<details{anchor}><summary>{path_text(path)}</summary>", escape("\n".join(text))
+        adds.append(f"<li class=added>{head}<pre>{shown}</pre></details></li>\n")
     for path, text in found.changes.items():
         # Lines that this listing alone has are struck out, those of the other one stand where it has them.
         lines = differences(found.here[path], text)
-        shown = chr(10).join(f"<{mark}>{escape(line)}</{mark}>" if mark else escape(line) for mark, line in lines)
+        lines = (f"<{mark}>{escape(line)}</{mark}>" if mark else escape(line) for mark, line in lines)
+        shown = "\n".join(lines)
         head = f"<details id=c{names[path].number}><summary>{links[path]}</summary>"
         changes.append(f"<li class=changed>{head}<pre>{shown}</pre></details></li>\n")
     written = [f"<section id=comparison><h2>Beside {escape(found.other)}</h2>\n", *table_changes_html(sheet)]
