@@ -71,8 +71,9 @@ class Read:
         sections = [(it.found.get("class") or it.found["id"], it) for it in parts if it.tag == "section"]
         for line in (line for kind, it in sections if kind == "block" for line in it.all("p", "summary")):
             self.read_line(line)
-        lists = [(entry, ul) for kind, it in sections if kind == "uses" for entry in it.all("div") for ul in entry.all("ul")]
-        self.uses = {(entry.found["id"], link.found["href"][1:]) for entry, ul in lists for link in ul.all("a")}
+        entries = [entry for kind, it in sections if kind == "uses" for entry in it.all("div")]
+        links = [(entry, link) for entry in entries for ul in entry.all("ul") for link in ul.all("a")]
+        self.uses = {(entry.found["id"], link.found["href"][1:]) for entry, link in links}
         self.cells = [cell.text() for kind, it in sections if kind == "tables" for cell in it.all("td")]
 
     def read_line(self, line: Element) -> None:
