@@ -6,12 +6,10 @@
 It shares nothing with the program: the modules beside it read code, namespaces, tables and whole sets after docs/.
 """
 
-import pathlib
 import re
 import sys
 
 sys.dont_write_bytecode = True
-sys.path.insert(0, str(pathlib.Path(__file__).resolve().parent))
 
 from dumps import RECORDS, Bad, Dump, addresses_of, little, order_of, records_of  # noqa: E402
 from folders import LineFault, parse_externals, parse_map  # noqa: E402

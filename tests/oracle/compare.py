@@ -31,7 +31,6 @@ import threading
 import time
 
 sys.dont_write_bytecode = True
-sys.path.insert(0, str(pathlib.Path(__file__).resolve().parent))
 
 from folders import file_names  # noqa: E402
 from made_sets import SetMaker, Trial  # noqa: E402

@@ -11,12 +11,10 @@ The last line is 'N passed, N failed', by the lists; 150 names are asked of each
 
 import argparse
 import itertools
-import pathlib
 import random
 import sys
 
 sys.dont_write_bytecode = True
-sys.path.insert(0, str(pathlib.Path(__file__).resolve().parent))
 
 from any_run import RunNamespace, agreed  # noqa: E402
 from loading import Namespace, path_text  # noqa: E402

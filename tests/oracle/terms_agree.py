@@ -25,7 +25,6 @@ import tempfile
 from typing import NamedTuple
 
 sys.dont_write_bytecode = True
-sys.path.insert(0, str(pathlib.Path(__file__).resolve().parent))
 
 from compare import PROGRAM, run_program, write_trial  # noqa: E402
 from loading import PREDEFINED, path_text  # noqa: E402
