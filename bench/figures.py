@@ -4,10 +4,9 @@
 usage: bench/figures.py [ACPIDIS] [--only WORD] [--runs N] [--seconds N] [--print]
 
 ACPIDIS is the built program, out/acpidis if left out. iasl and GNU time have to be there (Debian: apt-get install
-acpica-tools time). iasl compiles some of the sets, and `iasl -d` is measured on the same files in the same run. Each
-program runs N times, 5 if left out, and the shortest time counts; its peak memory is that of one more run. Both write
-their text to files beside the set. A run is stopped after so many seconds, 60 if left out. With --print, or where
---only leaves sets out, nothing is written but the section to standard output. The script is no part of the gate.
+acpica-tools time). Each program runs N times, 5 if left out, and the shortest time counts; its peak memory is that of
+one more run. A run is stopped after so many seconds, 60 if left out. With --print, or where --only leaves sets out,
+nothing is written but the section to standard output.
 
 The sets:
   10 KB, 40 KB, 1 MB  one table each, compiled by iasl from devices with resources, fields and methods as firmware has
@@ -24,7 +23,7 @@ import shutil
 import subprocess
 import sys
 import tempfile
-from dataclasses import dataclass
+from collections import namedtuple
 
 import measuring
 import plot
@@ -45,9 +44,6 @@ OUTERMOST = b"X000"
 
 # A device of the compiled sets, as firmware has them, by its number
 DEVICE = (measuring.TOP / "bench/device.asl").read_text()
-
-
-# ---- sets
 
 
 def compiled(devices: int) -> bytes:
@@ -78,18 +74,8 @@ SETS = (
 )
 
 
-# ---- measuring
-
-
-@dataclass
-class Figures:
-    """What was measured of one set; no answer where a run took too long."""
-
-    name: str
-    size: int
-    alone: measuring.Answer | None
-    together: measuring.Answer | None
-    iasl: measuring.Answer | None
+# What was measured of one set; no answer where a run took too long
+Figures = namedtuple("Figures", "name size alone together iasl")
 
 
 def best(command, folder, asked):
@@ -118,75 +104,43 @@ def figures_of(name, make, program, asked):
         return Figures(name, size, *(best(command, beside, asked) for command in commands))
 
 
-# ---- the section of README
-
-
-def seconds_text(answer, limit):
-    if answer is None:
-        return f"no answer in {limit:g} s"
-    return f"{answer.seconds:.3f} s" if answer.seconds < 1 else f"{answer.seconds:.1f} s"
-
-
-def memory_text(answer):
-    return f"{answer.peak / 1e6:,.0f} MB"
-
-
-def size_text(size):
-    return f"{size / 1e6:.1f} MB" if size >= 1e5 else f"{size / 1e3:.1f} KB"
-
-
-def times_text(figures):
-    """How many times as fast as `iasl -d`: one worker by processor time, several by the clock."""
-    alone = figures.iasl.processor / max(figures.alone.processor, 0.001)
-    return f"{alone:.1f}, {figures.iasl.seconds / figures.together.seconds:.1f}"
-
-
 def row(figures, limit):
     alone, together, iasl = figures.alone, figures.together, figures.iasl
+
+    def seconds(answer):
+        if answer is None:
+            return f"no answer in {limit:g} s"
+        return f"{answer.seconds:.3f} s" if answer.seconds < 1 else f"{answer.seconds:.1f} s"
+
+    memory = lambda answer: f"{answer.peak / 1e6:,.0f} MB" if answer else ""
+    size, times = figures.size, ""
+    if alone and together and iasl:
+        times = f"{iasl.processor / max(alone.processor, 0.001):.1f}, {iasl.seconds / together.seconds:.1f}"
     cells = [
-        figures.name,
-        size_text(figures.size),
-        seconds_text(alone, limit),
-        f"{alone.processor:.3f} s" if alone else "",
-        seconds_text(together, limit),
-        memory_text(together) if together else "",
-        seconds_text(iasl, limit),
-        memory_text(iasl) if iasl else "",
-        str(iasl.status) if iasl else "",
-        times_text(figures) if alone and together and iasl else "",
+        figures.name, f"{size / 1e6:.1f} MB" if size >= 1e5 else f"{size / 1e3:.1f} KB", seconds(alone),
+        f"{alone.processor:.3f} s" if alone else "", seconds(together), memory(together), seconds(iasl), memory(iasl),
+        str(iasl.status) if iasl else "", times,
     ]
     return "| " + " | ".join(cells) + " |\n"
 
 
-def versions():
-    shown = subprocess.run(["iasl", "-v"], capture_output=True, text=True, check=False).stdout
-    found = re.search(r"version (\d+)", shown)
-    return f"iasl {found[1]}" if found else "iasl"
-
-
 def section(all_figures, asked, loads, stolen):
     processors = len(os.sched_getaffinity(0))
+    shown = subprocess.run(["iasl", "-v"], capture_output=True, text=True, check=False).stdout
+    compiler = " ".join(["iasl", *re.findall(r"version (\d+)", shown)[:1]])
     text = f"![Seconds by set: acpidis with 1 and {MOST_WORKERS} workers, and iasl -d](docs/figures.svg)\n\n"
     text += f"| Set | Bytes | `acpidis`, 1 worker | Of processors | {MOST_WORKERS} workers | Peak memory |"
     text += " `iasl -d` | Its peak memory | Its status | Times as fast |\n"
     text += "|---|---|---|---|---|---|---|---|---|---|\n"
     text += "".join(row(figures, asked.seconds) for figures in all_figures)
     text += f"\nThe last column has one worker by processor time, and {MOST_WORKERS} by the clock."
-    text += f" Measured on {datetime.date.today()} beside {versions()}, the best of {asked.runs} runs,"
+    text += f" Measured on {datetime.date.today()} beside {compiler}, the best of {asked.runs} runs,"
     text += f" on {processors} processors with a load of {min(loads):.1f} to {max(loads):.1f}."
     if stolen >= STOLEN_SHARE:
         text += f" Other machines took {stolen:.0%} of the processors' time meanwhile, so the times are too high."
     if max(loads) > BUSY_SHARE * processors:
         text += " Others worked on the machine: the times are too high, and more workers gain less than they could."
     return text + "\n"
-
-
-def put_in_readme(text):
-    before, mark, rest = README.read_text().partition(BEGIN)
-    _, end, after = rest.partition(END)
-    if not mark or not end:
-        sys.exit("README.md has no place for the figures")
-    README.write_text(before + mark + text + end + after)
 
 
 def main():
@@ -210,7 +164,11 @@ def main():
     if asked.print or asked.only:
         print(text, end="")
         return
-    put_in_readme(text)
+    before, mark, rest = README.read_text().partition(BEGIN)
+    _, end, after = rest.partition(END)
+    if not mark or not end:
+        sys.exit("README.md has no place for the figures")
+    README.write_text(before + mark + text + end + after)
     PICTURE.write_text(plot.picture(all_figures, asked.seconds, MOST_WORKERS))
 
 

@@ -4,19 +4,18 @@
 usage: bench/hostile.py [ACPIDIS] [--only WORD] [--keep FOLDER] [--runs N] [--seconds N] [--large] [--no-iasl]
                         [--instructions]
 
-ACPIDIS is the built program, out/acpidis if left out. Each set is written to a folder of its own. For each shape one
-line is printed: its size; the shortest time of N runs, 3 if left out, at the whole size; the most memory; how many
-times as much processor time and memory it takes as at half the size; how much text that is, which is thrown away; the
-status; the same of `--check`; and for sets of one table, where it is installed (Debian: apt-get install acpica-tools)
-and answers within 20 seconds, the time of `iasl -d`. A run is stopped after so many seconds, 120 if left out. --large
-adds 512 files of 16 MB each, for which the program needs 9 GB. Shapes of the options --externals and --any-run are left
-out where the program doesn't have them. The script is no part of the gate.
+ACPIDIS is the built program, out/acpidis if left out. For each shape one line is printed: its size; the shortest time
+of N runs, 3 if left out, at the whole size; the most memory; how many times as much processor time and memory it
+takes as at half the size; how much text that is; the status; the same of `--check`; and for sets of one table, where
+it is installed (Debian: apt-get install acpica-tools) and answers within 20 seconds, the time of `iasl -d`. A run is
+stopped after so many seconds, 120 if left out. --large adds 512 files of 16 MB each, for which the program needs 9
+GB.
 
 With --instructions the growth is of the instructions that one worker needs, by valgrind, in place of the processor
 time. They don't depend on what else the machine does; the runs take some fifty times as long, so name a shape.
 
-A shape's time should grow no more than 2.4 times; where it does, the line ends with GROWS. The shapes with `*` may take
-4.4 times as much: docs/limits.md says which two dimensions grow together in them.
+A shape's time should grow no more than 2.4 times; where it does, the line ends with GROWS. The shapes with `*` may
+take 4.4 times as much: docs/limits.md says which two dimensions grow together in them.
 """
 import os
 import pathlib
@@ -58,27 +57,15 @@ def printed_bytes(command, folder):
             return int(counter.stdout.read())
 
 
-def growth(whole, half):
-    """How many times as much processor time and memory the whole takes as its half, and the text of that."""
-    time, memory = whole.processor / max(half.processor, 0.001), whole.peak / half.peak
-    return time, f"({time:.1f} and {memory:.1f} times)"
-
-
 def answer_text(whole, half, most):
-    """The time and the memory of a run, with their growth, and whether it is too much."""
+    """The time and the memory of a run, how many times those of its half they are, and whether that is too much."""
     if whole is None:
         return "no answer", True
     text = f"{whole.seconds:7.2f} s {whole.peak / 1e6:6.0f} MB"
     if half is None:
         return text, True
-    times, more = growth(whole, half)
-    return f"{text} {more}", times > most and whole.processor > LEAST_SECONDS
-
-
-def iasl_text(iasl):
-    if iasl is None:
-        return ""
-    return f"iasl -d {iasl.seconds:.2f} s" + (f", status {iasl.status}" if iasl.status else "")
+    times, memory = whole.processor / max(half.processor, 0.001), whole.peak / half.peak
+    return f"{text} ({times:.1f} and {memory:.1f} times)", times > most and whole.processor > LEAST_SECONDS
 
 
 def line(shape, answers, text_bytes, iasl):
@@ -86,11 +73,12 @@ def line(shape, answers, text_bytes, iasl):
     plain, grows = answer_text(*answers[0], most)
     check, check_grows = answer_text(*answers[1], most)
     whole, star = answers[0][0], "*" if shape.is_square else ""
+    status = f", status {iasl.status}" if iasl and iasl.status else ""
     words = [
         f"{shape.name + star:18}", f"{shape.size:>8} {shape.unit:9}", plain,
         f"{text_bytes / 1e6:6.0f} MB of text" if text_bytes is not None else "",
-        f"status {whole.status}" if whole else "", f"--check {check}", iasl_text(iasl),
-        "GROWS" if grows or check_grows else "",
+        f"status {whole.status}" if whole else "", f"--check {check}",
+        f"iasl -d {iasl.seconds:.2f} s{status}" if iasl else "", "GROWS" if grows or check_grows else "",
     ]
     return "   ".join(word for word in words if word)
 

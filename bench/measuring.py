@@ -7,26 +7,16 @@ import subprocess
 import sys
 import threading
 import time
-from typing import NamedTuple
+from collections import namedtuple
 
 TOP = pathlib.Path(__file__).resolve().parent.parent
 SECONDS = 60
 
 
-class Answer(NamedTuple):
-    """What a run took: seconds, processor seconds, peak memory in bytes, and its status."""
-
-    seconds: float
-    processor: float
-    peak: int
-    status: int
-
-
-class Sparse(NamedTuple):
-    """A file of these bytes and then so many zeros that it has this size."""
-
-    head: bytes
-    size: int
+# What a run took: seconds, processor seconds, peak memory in bytes, and its status
+Answer = namedtuple("Answer", "seconds processor peak status")
+# A file of these bytes and then so many zeros that it has this size
+Sparse = namedtuple("Sparse", "head size")
 
 
 def command_line(text, most_seconds=SECONDS):
@@ -96,12 +86,9 @@ def run(command, folder, limit, text=subprocess.DEVNULL, errors=subprocess.DEVNU
 def several(count, command, folder, limit, **more):
     """What so many runs take; nothing where one takes too long."""
     answers = []
-    for _ in range(count):
-        answer = run(command, folder, limit, **more)
-        if answer is None:
-            return []
-        answers.append(answer)
-    return answers
+    while len(answers) < count and None not in answers:
+        answers.append(run(command, folder, limit, **more))
+    return [] if None in answers else answers
 
 
 def best(*words, **more):

@@ -24,9 +24,6 @@ MIXED = bytes.fromhex(
 )
 
 
-# ---- pieces
-
-
 def package(lead, content, width=None):
     """An opcode with a package length around its content, of one byte or of four (ACPI 6.5, 20.2.4)."""
     width = width or (1 if len(content) + 1 < 64 else 4)
@@ -75,9 +72,6 @@ def mixed(count):
 def one(make):
     """What makes a set of one DSDT."""
     return lambda: {"dsdt.dat": make()}
-
-
-# ---- sets
 
 
 def long_body(unit, size):

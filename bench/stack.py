@@ -32,9 +32,7 @@ GDB = ["catch syscall madvise", "run {} >/dev/null 2>/dev/null"]
 
 
 def packages(opcode, front, inner, levels=LEVELS):
-    for _ in range(levels):
-        inner = shapes.package(opcode, front + inner)
-    return inner
+    return shapes.around(levels, lambda code: shapes.package(opcode, front + code), inner)
 
 
 def connection(levels, within):

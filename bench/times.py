@@ -3,14 +3,12 @@
 
 usage: bench/times.py [ACPIDIS] [--only WORD] [--keep FOLDER] [--runs N] [--seconds N] [--workers N,N..]
 
-ACPIDIS is the built program, out/acpidis if left out. Each set of bench/sets.py whose name contains WORD is written to
-a folder of its own, which is left in FOLDER with --keep. For each number of workers, 1 and 4 if left out, and for iasl
-where it is installed (Debian: apt-get install acpica-tools), a line says of N runs, 3 if left out, the shortest time,
-the processor time of that run, the most memory, and how many times as fast as one worker that is. What is printed is
-thrown away. A run is stopped after so many seconds, 60 if left out: iasl takes more than five minutes for some. The
-last line of a set says how many times as fast as iasl the program is, and which share of the processors a virtual
-machine's host gave to others. With other work on the machine several workers gain less. The script is no part of the
-gate.
+ACPIDIS is the built program, out/acpidis if left out. Each set of bench/sets.py whose name contains WORD is written
+to a folder of its own, which is left in FOLDER with --keep. For each number of workers, 1 and 4 if left out, and for
+iasl where it is installed (Debian: apt-get install acpica-tools), a line says of N runs, 3 if left out, the shortest
+time, the processor time of that run, the most memory, and how many times as fast as one worker that is. A run is
+stopped after so many seconds, 60 if left out. The last line of a set says how many times as fast as iasl the program
+is, and which share of the processors a virtual machine's host gave to others.
 """
 import os
 import pathlib

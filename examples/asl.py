@@ -21,6 +21,7 @@ import os
 import re
 import shlex
 import sys
+from collections import namedtuple
 
 from acpidis_tools import command
 from acpidis_tools.asl import forms, language
@@ -33,11 +34,8 @@ TOLD = 3
 MOST_EXTERNALS = 200_000
 
 
-class Made:
-    """A text that is to be written: the table that it is of, its lines, and what ASL can't spell."""
-
-    def __init__(self, table, lines, told):
-        self.table, self.lines, self.told = table, lines, told
+# A text that is to be written: the table that it is of, its lines, and what ASL can't spell
+Made = namedtuple("Made", "table lines told")
 
 
 def of_listing(asked):
@@ -91,14 +89,6 @@ def write(folder, made, is_edited):
         command.write(file, lines.encode("ascii"))
 
 
-def tell(made, more):
-    """Says what can't be had, and whether there was something."""
-    lines = [f"{it.table.file[1:-1]}: line {number}: {what}" for it in made for number, what in it.told]
-    for line in (*lines, *more):
-        print(f"asl: {line}", file=sys.stderr)
-    return bool(lines or more)
-
-
 def main():
     words = command.parser(__doc__)
     kinds = words.add_mutually_exclusive_group()
@@ -108,17 +98,14 @@ def main():
     words.add_argument("listing", metavar="LISTING")
     words.add_argument("out", metavar="OUT")
     asked = words.parse_args()
-    try:
+    with command.reading("asl", NoListing, f"{asked.listing!r}: "):
         blocks, made = of_listing(asked)
         more = list(forms.told(asked.tables, blocks)) if asked.tables else []
         write(asked.out, made, asked.edit or asked.method)
-    except NoListing as fault:
-        sys.exit(f"asl: {asked.listing!r}: {fault}")
-    except forms.Misfit as fault:
-        command.leave(f"asl: {fault}")
-    except OSError as fault:
-        command.leave(f"asl: {fault.filename!r}: {fault.strerror}")
-    if tell(made, more):
+    told = [f"{it.table.file[1:-1]}: line {number}: {what}" for it in made for number, what in it.told]
+    for line in (*told, *more):
+        print(f"asl: {line}", file=sys.stderr)
+    if told or more:
         sys.exit(TOLD)
 
 

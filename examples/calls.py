@@ -18,14 +18,14 @@ import re
 import sys
 
 from acpidis_tools import aml, command, running
+from acpidis_tools.listing import WORD
+from acpidis_tools.terms import places, terms_in
 
 SHOWN = 100
 # The operators that may take a method, and none of its values.
 OF_METHODS = ("CondRefOf", "ObjectType", "RefOf")
 COUNT = re.compile(r"(\\\S*) ([0-7])\n?")
 EXTERNAL = re.compile(rf"External \(({running.NAME.pattern}), \S+, (Zero|One|0x0[0-7])\)")
-# The positions of each operator that take a target or an object.
-PLACES = {word: [at for at, kind in enumerate(kinds) if kind == "S"] for word, kinds in aml.PARTS.items()}
 # The name that a term of a body declares, a field's unit among them.
 DECLARED = re.compile(
     r"(?:Name|Mutex|Event|OperationRegion|DataRegion) \(([^\s,)]+)|(?:Create\w*Field|Alias) \(.*, ([^\s,)]+)\)"
@@ -35,18 +35,9 @@ DECLARED = re.compile(
 
 def targets(line):
     """The names in a line that stand as targets or objects, each with its operator."""
-    stack, word = [("", 0)], ""
-    for token in running.TOKEN.findall(line):
-        operator, place = stack[-1]
-        if token in "({":
-            stack.append((word if token == "(" else "", 0))
-        elif token in ")}" and len(stack) > 1:
-            stack.pop()
-        elif token == ",":
-            stack[-1] = operator, place + 1
-        elif place in PLACES.get(operator, ()) and running.NAME.fullmatch(token):
-            yield operator, token
-        word = token
+    for term, place in places(terms_in(WORD.split(line))):
+        if place.kind == "S" and running.NAME.fullmatch(term.word):
+            yield place.within.word, term.word
 
 
 def add_externals(lines, namespace):
@@ -97,14 +88,8 @@ def listing_of(asked):
 
 def main():
     words = command.folder_parser(__doc__)
-    try:
+    with command.running_it("calls"):
         run = listing_of(command.parse(words))
-    except running.Refused as fault:
-        print(f"calls: the set is refused: {fault}", file=sys.stderr)
-        sys.exit(1)
-    except (running.Unusable, OSError, ValueError) as fault:
-        print(f"calls: {fault}", file=sys.stderr)
-        sys.exit(2)
     found = list(calls(run.listing))
     for scope, name, count, operator, line in found:
         print(f"{scope}: {name} takes {count}, in {operator}: {line[:SHOWN]}")

@@ -62,7 +62,8 @@ class Machine:
         try:
             self.text, self.errors = self.read()
             if not self.text:
-                raise NoListing(refusal_in(self.errors))
+                line = self.errors.decode("latin-1").partition("\n")[0]  # why the set was refused
+                raise NoListing(f"refused: {line[9:]}" if line.startswith("acpidis: ") else "it is empty")
             if self.text.count(b"\n") > MOST_LINES:
                 raise NoListing(f"it has more than {MOST_LINES:,} lines")
             found, files, self.above = read_dumps(self.text)
@@ -111,12 +112,6 @@ def said(fault: Exception) -> str:
     if isinstance(fault, OSError):
         return f"cannot read {printable(os.fsdecode(fault.filename))}: {fault.strerror}"[:LONGEST_FAULT]
     return str(fault)[:LONGEST_FAULT]
-
-
-def refusal_in(errors: bytes) -> str:
-    """Why the set was refused, as standard error says it."""
-    line = errors.decode("latin-1").partition("\n")[0]
-    return "refused: " + line[len("acpidis: "):] if line.startswith("acpidis: ") else "it is empty"
 
 
 def sum_of(text: bytes, errors: bytes) -> str:
@@ -234,18 +229,15 @@ def machines_of(asked: argparse.Namespace) -> Iterator[Machine]:
 
 
 class Processes:
-    """Processes that read listings. Where one is ended, the others are, and new ones take their place."""
+    """Processes that read listings; for one job there is none. Where one is ended, all are, and new ones take their
+    place."""
 
     def __init__(self, jobs: int):
         self.jobs, self.pool = jobs, concurrent.futures.ProcessPoolExecutor(jobs)
 
-    def __enter__(self) -> Processes:
-        return self
-
-    def __exit__(self, *_: object) -> None:
-        self.pool.shutdown()
-
     def submit(self, make: Callable, *words: object) -> concurrent.futures.Future:
+        if self.jobs == 1:
+            return self.done_here(make, *words)
         try:
             return self.pool.submit(make, *words)
         except BrokenProcessPool:
@@ -253,17 +245,8 @@ class Processes:
             self.pool = concurrent.futures.ProcessPoolExecutor(self.jobs)
             return self.pool.submit(make, *words)
 
-
-class Here:
-    """In place of a pool, where there is no other process."""
-
-    def __enter__(self) -> Here:
-        return self
-
-    def __exit__(self, *_: object) -> None:
-        pass
-
-    def submit(self, make: Callable, *words: object) -> concurrent.futures.Future:
+    @staticmethod
+    def done_here(make: Callable, *words: object) -> concurrent.futures.Future:
         future: concurrent.futures.Future = concurrent.futures.Future()
         try:
             future.set_result(make(*words))
@@ -275,23 +258,23 @@ class Here:
 def add_all(facts: Facts, machines: Iterator[Machine], jobs: int) -> str:
     """Adds the facts of all machines in their order, and answers why the last one that has none has none."""
     waiting: deque = deque()
-    fault, progress = "", command.Progress("machine")
+    fault, progress, processes = "", command.Progress("machine"), Processes(jobs)
     seen: set[str] = set()
-    with Here() if jobs == 1 else Processes(jobs) as pool:
-        for machine in machines:
-            code_sum = "" if machine.fault else sum_of(machine.text, machine.errors)
-            future = None
-            if code_sum and code_sum not in seen:
-                seen.add(code_sum)
-                future = pool.submit(facts_of, machine.text, machine.errors)
-            machine.text = machine.errors = b""
-            waiting.append((machine, code_sum, future))
-            while len(waiting) > WAITING * jobs:
-                fault = add_next(facts, *waiting.popleft()) or fault
-                progress.step()
-        while waiting:
+    for machine in machines:
+        code_sum = "" if machine.fault else sum_of(machine.text, machine.errors)
+        future = None
+        if code_sum and code_sum not in seen:
+            seen.add(code_sum)
+            future = processes.submit(facts_of, machine.text, machine.errors)
+        machine.text = machine.errors = b""
+        waiting.append((machine, code_sum, future))
+        while len(waiting) > WAITING * jobs:
             fault = add_next(facts, *waiting.popleft()) or fault
             progress.step()
+    while waiting:
+        fault = add_next(facts, *waiting.popleft()) or fault
+        progress.step()
+    processes.pool.shutdown()
     progress.end()
     return fault
 

@@ -20,6 +20,7 @@ import sys
 import tempfile
 
 from acpidis_tools import command, paths, running
+from acpidis_tools.errors import spelled_name
 
 COUNTS = range(8)
 MOST_NAMES = 1000
@@ -28,7 +29,6 @@ MOST_RUNS = 1000
 SEGMENT = re.compile(running.SEGMENT)
 ANYWHERE = re.compile(rf"(?=({running.SEGMENT}))".encode())
 OUTSIDE = re.compile(r'table "[^"]*": ModuleCall (\\\S+)')
-NAME = re.compile(rb"(\\|\^*)(?:\x2e(.{8})|\x2f(.)|([A-Z_][A-Z0-9_]{3})|\x00)", re.DOTALL)
 
 
 class Body:
@@ -51,14 +51,10 @@ class Body:
 
 def name_at(raw, at):
     """The prefix and the segments of the name that stands there."""
-    form = NAME.match(raw, at)
-    if not form:
+    form = running.NAME.fullmatch(spelled_name(raw[at:]))
+    if not form[0]:
         raise running.Unusable(f"no name stands at {at} of a body that wants one: is this another version of acpidis?")
-    path = form[2] or form[4] or b""
-    if form[3]:
-        path = raw[form.end() : form.end() + 4 * form[3][0]]
-    text = path.decode("ascii")
-    return form[1].decode(), [text[i : i + 4] for i in range(0, len(text), 4)]
+    return form[1], form[2].split(".") if form[2] else []
 
 
 def bodies_of(run):
@@ -78,19 +74,18 @@ class Trial:
         if run.refused:
             return
         if not bodies:
-            self.values = run.listing.lone_values()
-            self.read, self.loose = int(self.values == 0), int(self.values > 0)
-            return
+            self.add(run.listing.lone_values())
         for body in bodies:
             if body.number in raw:
                 self.faults.append(raw[body.number].fault)
-                continue
-            values = run.listing.methods[body.number].lone_values(run.listing.namespace)
-            self.values += values
-            if values:
-                self.loose += 1
             else:
-                self.read += 1
+                self.add(run.listing.methods[body.number].lone_values(run.listing.namespace))
+
+    def add(self, values):
+        """What is read, with so many values that stand alone."""
+        self.values += values
+        self.loose += values > 0
+        self.read += values == 0
 
     def rank(self):
         """The less, the better."""
@@ -126,12 +121,8 @@ class Search:
 
     def trials(self, names, more=()):
         """What comes of each count of some names, with the others as they are: eight trials for each name."""
-
-        def outcomes(count):
-            return self.outcomes(names, count, more)
-
         with concurrent.futures.ThreadPoolExecutor(4) as pool:
-            of_counts = list(pool.map(outcomes, COUNTS))
+            of_counts = list(pool.map(lambda count: self.outcomes(names, count, more), COUNTS))
         return {name: [found[name] for found in of_counts] for name in names}
 
     def outcomes(self, names, count, more):
@@ -148,7 +139,9 @@ class Search:
         while True:
             run = self.run(self.counts)
             bodies = [] if run.refused else bodies_of(run)
-            found = self.found_outside(run.refused) if run.refused else self.found_in(bodies)
+            outside = OUTSIDE.fullmatch(run.refused or "")
+            # For a name outside the methods, for which the set is refused, no body waits.
+            found = {outside[1]: []} if outside and outside[1] not in self.counts else self.found_in(bodies)
             if run.refused and not found:
                 raise running.Refused(run.refused)
             if not found:
@@ -156,7 +149,8 @@ class Search:
             if len(self.counts) + len(found) > MOST_NAMES:
                 raise running.Unusable(f"more than {MOST_NAMES} names are missing: a table is, more likely")
             if not run.refused and "--any-run" in self.options:
-                self.outside = segments_outside(run.listing)
+                outside = [line for line, _, method in run.listing.lines if method is None]
+                self.outside = {segment for line in outside for segment in SEGMENT.findall(line)}
             self.waiting.update(found)
             self.rounds.append(sorted(found, key=lambda name: -len(found[name])))
             for names in self.apart(self.rounds[-1]):
@@ -190,11 +184,6 @@ class Search:
                 found.setdefault(name, []).append(body)
         return found
 
-    def found_outside(self, refused):
-        """The name outside the methods for which the set is refused, for which no body waits."""
-        form = OUTSIDE.fullmatch(refused)
-        return {form[1]: []} if form and form[1] not in self.counts else {}
-
     def choose(self, name, trials):
         """Keeps the count that fits best, and says whether it is another one."""
         before = self.counts.get(name, 0)
@@ -213,11 +202,6 @@ class Search:
             if not changed:
                 break
         return trials
-
-
-def segments_outside(text):
-    lines = (line for line, _, method in text.lines if method is None)
-    return {segment for line in lines for segment in SEGMENT.findall(line)}
 
 
 def bodies_by_segment(waiting):
@@ -280,11 +264,7 @@ def report(name, bodies, trials):
         say("  0 is also the count of what is no method")
 
 
-def show(search, must_be_one):
-    try:
-        all_trials = search.settle()
-    finally:
-        search.progress.end()
+def show(search, all_trials, must_be_one):
     for number, names in enumerate(search.rounds, 1):
         say(f"Round {number}")
         for name in names:
@@ -303,42 +283,26 @@ def show(search, must_be_one):
         say("no body waits for a name")
 
 
-def say_left(bodies):
-    """The bodies that no count mends."""
-    for body in bodies:
-        say(f"{body.path} stays raw: {body.fault}")
-
-
-def search_of(asked):
-    given = ""
-    if asked.externals:
-        with open(asked.externals, encoding="ascii") as file:
-            given = file.read()
-    if given and not given.endswith("\n"):
-        given += "\n"
-    return Search(running.program(), asked.folder, command.words_of(asked.options), given)
-
-
 def main():
     words = command.folder_parser(__doc__, "[--try] [--externals FILE] ")
     words.add_argument("--try", action="store_true", dest="must_be_one", help="lines only where just one count reads")
     words.add_argument("--externals", metavar="FILE", help="counts that are known already")
-    try:
+    with command.running_it("missing"):
         # With --unknown-zero no body waits for a name.
         asked = command.parse(words, ("--externals", "--unknown-zero"))
-        search = search_of(asked)
+        given = ""
+        if asked.externals:
+            with open(asked.externals, encoding="ascii") as file:
+                given = file.read()
+        given += "\n" if given and not given.endswith("\n") else ""
+        search = Search(running.program(), asked.folder, command.words_of(asked.options), given)
         try:
-            left = search.go()
+            left, all_trials = search.go(), search.settle()
         finally:
             search.progress.end()
-        show(search, asked.must_be_one)
-        say_left(left)
-    except running.Refused as fault:
-        print(f"missing: the set is refused: {fault}", file=sys.stderr)
-        sys.exit(1)
-    except (running.Unusable, OSError, ValueError) as fault:
-        print(f"missing: {fault}", file=sys.stderr)
-        sys.exit(2)
+        show(search, all_trials, asked.must_be_one)
+        for body in left:  # those that no count mends
+            say(f"{body.path} stays raw: {body.fault}")
 
 
 if __name__ == "__main__":

@@ -198,7 +198,10 @@ def say_code(found, refusal):
     if reader.stopped != refusal.at:
         yield f"  the reader of this script came to {reader.stopped} only"
         return
-    blocks, before, uses = around(reader), reader.before, last_uses(reader)
+    blocks, before = around(reader), reader.before
+    # The last names of the term in front, and of the one that the reader is in
+    front = before or next(reversed(reader.open), None)
+    uses = [use for use in reader.uses[-MOST_SHOWN:] if front is not None and use.term.at >= front.at]
     if refusal.word == "ModuleCode":
         yield from say_term(reader, refusal.at)
     yield from blocks
@@ -215,15 +218,11 @@ def say_term(reader, at):
         yield f"  which this script can read to {stopped}"
 
 
-def last_uses(reader):
-    """The last names of the term in front, and of the one that the reader is in."""
-    front = reader.before or next(reversed(reader.open), None)
-    return [use for use in reader.uses[-MOST_SHOWN:] if front is not None and use.term.at >= front.at]
-
-
 def say_counts(found, reader, uses):
     """Which of the names may be calls with arguments, which would shift all that follows."""
-    ahead = methods_in(reader.code) if found.any_run else {}
+    # The methods that the bytes seem to declare, by the last segments of their names
+    methods = METHOD.finditer(reader.code) if found.any_run else ()
+    ahead = {form[1].decode(): (form.start(), form[2][0] & 7) for form in methods}
     for use in uses:
         known = found.space.count(use.scope, use.name)
         if known and known[0] and use.read == 0:
@@ -232,18 +231,10 @@ def say_counts(found, reader, uses):
         elif found.any_run and not known and use.name.segments and use.name.segments[-1] in ahead:
             at, count = ahead[use.name.segments[-1]]
             yield f"  nothing tells of {use.name} before it; a Method of {counted(count)} may stand at offset {at}"
-            yield f"  a line `{path_for_counts(found.space, use)} {count}` in the file of --externals would tell it"
-
-
-def path_for_counts(space, use):
-    """The path of a name as a line for --externals wants it: the root's is found from each scope."""
-    place = space.place(space.root if use.name.is_searched() else use.scope, use.name)
-    return path_of(place) if place else "?"
-
-
-def methods_in(code):
-    """The methods that the bytes seem to declare, by the last segments of their names."""
-    return {form[1].decode(): (form.start(), form[2][0] & 7) for form in METHOD.finditer(code)}
+            # As a line for --externals wants it: the root's is found from each scope
+            place = found.space.place(found.space.root if use.name.is_searched() else use.scope, use.name)
+            path = path_of(place) if place else "?"
+            yield f"  a line `{path} {count}` in the file of --externals would tell it"
 
 
 def say_duplicate(found, refusal):
@@ -316,13 +307,6 @@ def say_file(asked, refusal):
         yield f"  at byte {refusal.at} stands {bytes_at(data, refusal.at)}"
 
 
-def way_of_line(line):
-    """What to do about a line that names no table."""
-    if line.startswith(("tables.map line", "externals line")):
-        return "mend the line"
-    return "look at `ls -la` of it" if line.startswith("cannot read") else "see docs/refusals.md"
-
-
 def say_tables(found, refusal):
     """What the tables have where the set is refused."""
     try:
@@ -332,18 +316,14 @@ def say_tables(found, refusal):
         yield "  the scopes are too deep for this script to follow"
 
 
-def is_return(asked, refusal):
-    """Whether the code outside the methods is a Return, which no option takes."""
-    if refusal.word != "ModuleCode" or refusal.file is None or refusal.at is None:
-        return False
-    return aml_of(read_file(asked.folder, refusal.file))[refusal.at : refusal.at + 1] == b"\xa4"
-
-
 def words_on(asked, refusal):
     """What is said of a refusal, and the ways on, of an SSDT and of a DSDT."""
     if refusal.word == "Short" and DUMPED.match(read_file(asked.folder, refusal.file)):
         return WORDS["the text of acpidump"]
-    told_by = {**WORDS, **RAN} if asked.any_run or is_return(asked, refusal) else WORDS
+    # No option takes a Return outside the methods.
+    is_code = refusal.word == "ModuleCode" and None not in (refusal.file, refusal.at)
+    code = aml_of(read_file(asked.folder, refusal.file)) if is_code else b""
+    told_by = {**WORDS, **RAN} if asked.any_run or code[refusal.at :][:1] == b"\xa4" else WORDS
     return told_by.get(refusal.word, ("", [], []))
 
 
@@ -359,7 +339,11 @@ def say_all(asked, program, refusal):
     ways = [way for way in ways if (asked.externals or way != WAYS["no-count"]) and (asked.has_any_run or way != WAYS["any-run"])]
     if what:
         yield what
-    yield "Way on: " + ("; or ".join(ways) or way_of_line(refusal.line))
+    if refusal.line.startswith(("tables.map line", "externals line")):
+        way = "mend the line"
+    else:
+        way = "look at `ls -la` of it" if refusal.line.startswith("cannot read") else "see docs/refusals.md"
+    yield "Way on: " + ("; or ".join(ways) or way)
 
 
 def say(asked):
@@ -377,11 +361,8 @@ def main():
     words = command.folder_parser(__doc__)
     sys.stdout.reconfigure(errors="backslashreplace")
     sys.stderr.reconfigure(errors="backslashreplace")
-    try:
+    with command.running_it("refused"):
         said, status = say(command.parse(words))
-    except (running.Unusable, OSError, ValueError) as fault:
-        print(f"refused: {fault}", file=sys.stderr)
-        sys.exit(2)
     print("\n".join(said))
     sys.exit(status)
 

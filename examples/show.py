@@ -11,17 +11,15 @@ Status 1 is a text that is no listing, or that declares no such path; 2 a comman
 """
 
 import sys
+from collections import namedtuple
 
 from acpidis_tools import command
 from acpidis_tools.asl.blocks import Block, Reader
 from acpidis_tools.listing import NoListing
 
 
-class Shown:
-    """A declaration: the lines of the blocks around it, and its own. `depth` is how many blocks are open around it."""
-
-    def __init__(self, heads, depth):
-        self.heads, self.depth, self.lines = heads, depth, []
+# A declaration: the lines of the blocks around it, how many these are, and its own
+Shown = namedtuple("Shown", "heads depth lines")
 
 
 class ShownBlock(Block):
@@ -34,7 +32,7 @@ class ShownBlock(Block):
 
     def met(self, word, node, text):
         if node and not self.begun and self.is_wanted(node.path()):
-            self.begun = Shown(list(self.heads), len(self.open))
+            self.begun = Shown(list(self.heads), len(self.open), [])
             self.shown.append(self.begun)
 
     def add(self, number, line):
@@ -62,12 +60,8 @@ def main():
     words.add_argument("path", metavar="PATH", type=wanted)
     asked = words.parse_args()
     reader = Reader(lambda table, space: ShownBlock(table, space, asked.path))
-    try:
+    with command.reading("show", NoListing, f"{asked.listing!r}: "):
         reader.read(asked.listing)
-    except NoListing as fault:
-        sys.exit(f"show: {asked.listing!r}: {fault}")
-    except OSError as fault:
-        command.leave(f"show: {fault.filename!r}: {fault.strerror}")
     shown = [it for block in reader.blocks for it in block.shown]
     if not shown:
         sys.exit(f"show: {asked.listing!r} declares no such path")

@@ -14,6 +14,7 @@ written then. 2 is a command line that is at fault, or a file that can't be read
 """
 
 import sys
+from collections import namedtuple
 
 from acpidis_tools import aml, command
 
@@ -28,12 +29,10 @@ class Refused(Exception):
     """Why there is no patched table."""
 
 
-class Place:
-    """Where a path is declared: the term's word, its first byte, the byte behind its name, and the one behind it; the path
-    of the scope that it stands in, and the package lengths around it, the outer first, with its own where it has one."""
-
-    def __init__(self, word, start, named, end, scope, lengths):
-        self.word, self.start, self.named, self.end, self.scope, self.lengths = word, start, named, end, scope, lengths
+# Where a path is declared: the term's word, its first byte, the byte behind its name, and the one
+# behind it; the path of the scope that it stands in, and the package lengths around it, the outer
+# first, with its own where it has one
+Place = namedtuple("Place", "word start named end scope lengths")
 
 
 class Reader(aml.Reader):
@@ -141,9 +140,6 @@ def raised(table):
     return sealed(table[:OEM_REVISION] + revision.to_bytes(4, "little") + table[OEM_REVISION + 4 :])
 
 
-# ---- an archive for the front of an initrd
-
-
 def archive(table):
     """A cpio archive, in the form that Linux wants, of a table where it looks for overrides."""
     name = f"{ARCHIVE}/{table[:4].decode('ascii', 'replace').lower()}.aml"
@@ -160,11 +156,6 @@ def entry(number, name, mode, data):
     return head + bytes(-len(head) % 4) + data + bytes(-len(data) % 4)
 
 
-def read(file):
-    with open(file, "rb") as opened:
-        return opened.read()
-
-
 def main():
     words = command.parser(__doc__)
     words.add_argument("--oem-revision", action="store_true")
@@ -176,8 +167,8 @@ def main():
     asked = words.parse_args()
     if sys.stdout.isatty() and not asked.output:
         words.error("a table isn't for a terminal: name a file for it by -o")
-    try:
-        table, new = read(asked.dump), read(asked.new)
+    with command.reading("splice", Refused):
+        table, new = command.read(asked.dump), command.read(asked.new)
         for path in asked.paths:
             table = patched(table, new, path, (asked.dump, asked.new))
         table = raised(table) if asked.oem_revision else table
@@ -186,10 +177,6 @@ def main():
         if asked.output:
             command.write(asked.output, table)
             return
-    except Refused as fault:
-        sys.exit(f"splice: {fault}")
-    except OSError as fault:
-        command.leave(f"splice: {fault.filename!r}: {fault.strerror}")
     sys.stdout.buffer.write(table)
 
 

@@ -17,7 +17,6 @@ import os
 import pathlib
 import re
 import shutil
-import sys
 import tempfile
 
 from acpidis_tools import command
@@ -55,9 +54,6 @@ def length_of(data):
     return little(data, 4, 4)
 
 
-# ---- the text of acpidump
-
-
 def dumped(text):
     """The tables of acpidump's text."""
     tables, title = [], None
@@ -81,9 +77,6 @@ def whole(number, name, data):
     if len(data) < 8 or length_of(data) > len(data):
         raise Refused(f"line {number}: {name} has {len(data)} bytes of {length_of(data) if len(data) > 7 else 'its header'}")
     return data
-
-
-# ---- tables as bytes
 
 
 def behind_each_other(data):
@@ -121,9 +114,6 @@ def tables_of(data):
     if not tables:
         raise Refused("it is packed: unpack it first" if data.startswith(PACKED) else "no table is in it")
     return tables
-
-
-# ---- the folder
 
 
 def names_of(tables):
@@ -177,12 +167,8 @@ def main():
     words.add_argument("file", metavar="FILE")
     words.add_argument("folder", metavar="FOLDER")
     asked = words.parse_args()
-    try:
+    with command.reading("unpack", Refused, f"{asked.file!r}: "):
         write(asked.folder, tables_of(pathlib.Path(asked.file).read_bytes()))
-    except Refused as fault:
-        sys.exit(f"unpack: {asked.file!r}: {fault}")
-    except OSError as fault:
-        command.leave(f"unpack: {fault.filename!r}: {fault.strerror}")
 
 
 if __name__ == "__main__":

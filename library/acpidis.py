@@ -12,6 +12,7 @@ ACPIDIS_LIBRARY names.
 """
 
 import ctypes
+import functools
 import os
 import pathlib
 import re
@@ -95,8 +96,9 @@ class Sizes(ctypes.Structure):
     _fields_ = tuple((name, ctypes.c_size_t) for name in SIZES)
 
 
+@functools.lru_cache(maxsize=None)
 def find_library() -> ctypes.CDLL:
-    """The library, with the types of its functions."""
+    """The library, with the types of its functions. It is looked for once it is needed."""
     library = ctypes.CDLL(os.environ.get("ACPIDIS_LIBRARY", "libacpidis.so.0"))
     pointer, size, place = ctypes.POINTER(Set), ctypes.c_size_t, ctypes.POINTER(ctypes.c_size_t)
     types = {
@@ -123,28 +125,16 @@ def find_library() -> ctypes.CDLL:
     return library
 
 
-class Library:
-    """The library, found once it is needed."""
-
-    found: Optional[ctypes.CDLL] = None
-
-    @classmethod
-    def get(cls) -> ctypes.CDLL:
-        if cls.found is None:
-            cls.found = find_library()
-        return cls.found
-
-
 def version() -> str:
     """The library's version."""
-    return Library.get().acpidis_version().decode()
+    return find_library().acpidis_version().decode()
 
 
 class Open:
     """An open set, which is closed behind its block."""
 
     def __init__(self) -> None:
-        self.library, self.set = Library.get(), Set()
+        self.library, self.set = find_library(), Set()
 
     def __enter__(self) -> "Open":
         self.do("open")
@@ -289,13 +279,6 @@ def filled(opened: Open, source: Source, options: int, externals: Counts) -> Lis
     return names
 
 
-def faults_of(errors: List[str]) -> Iterator[Fault]:
-    """The faults of bodies of error lines."""
-    for line in errors:
-        path, _, why = line.partition("body ")[2].partition(": ")
-        yield Fault(path, why)
-
-
 def options_of(any_sum: bool, any_run: bool, unknown_zero: bool) -> int:
     return any_sum * ANY_SUM | any_run * ANY_RUN | unknown_zero * UNKNOWN_ZERO
 
@@ -321,7 +304,8 @@ def load(
         _, told, errors = opened.run(False) if text else (0, "", [])
         rows, methods = opened.listed(names, bodies)
     raw = [Fault(method.path, method.fault) for method in methods if method.fault]
-    faults = list(faults_of(errors)) if text else raw
+    named = (line.partition("body ")[2].partition(": ") for line in errors)
+    faults = [Fault(path, why) for path, _, why in named] if text else raw
     return Listing(told, 3 if faults else 0, rows, methods, faults)
 
 

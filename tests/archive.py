@@ -11,29 +11,25 @@ import os
 import shutil
 import sys
 
-sys.dont_write_bytecode = True
-sys.path.insert(0, os.path.dirname(os.path.abspath(__file__)))
-
-from wrong_bodies import TOP, kit  # noqa: E402
+from tally import Tally  # before the others, whose places it tells
+from wrong_bodies import TOP, kit
 
 CRATE = "acpidis_c"
 
 
 def main():
-    rtlib = kit()
+    rtlib, checks = kit(), Tally()
     os.chdir(sys.argv[1])
     crate = next(it for it in rtlib.crates_below(os.getcwd()) if it.name == CRATE)
     os.chdir(crate.folder)
     os.makedirs("out", exist_ok=True)
-    if crate.build_static(["--jobs", "1"]):
-        print("0 passed, 1 failed")
-        return 1
-    kept = f"{TOP}/crates/{CRATE}/out"
-    os.makedirs(kept, exist_ok=True)
-    shutil.copy2(f"out/lib{CRATE}.a", kept)
-    print("1 passed, 0 failed")
-    return 0
+    checks.is_so("the archive is built", not crate.build_static(["--jobs", "1"]))
+    if checks.passed:
+        kept = f"{TOP}/crates/{CRATE}/out"
+        os.makedirs(kept, exist_ok=True)
+        shutil.copy2(f"out/lib{CRATE}.a", kept)
+    checks.end()
 
 
 if __name__ == "__main__":
-    sys.exit(main())
+    main()

@@ -3,11 +3,10 @@
 
     python3 tests/asl.py [--sets N] [--stop] [FOLDER ..]
 
-Of sample sets, of N made-up sets of which ASL has each term, 200 if left out, and of each FOLDER of dumps, asl.py makes
-ASL of the listing. Where iasl is there it compiles each block of which nothing is told, which has to give the dump's
-bytes again. Each spelling that ASL hasn't got is told. 150 methods, grown by 1 to 70,000 bytes, are put into their
-dumps by splice.py: acpidis reads those, and the listings differ in the lines that are new. unpack.py takes texts, files
-and images apart, as acpixtract does where that is there. show.py shows what is at a path. With --stop the first row
+Of sample sets, of N made-up sets of which ASL has each term, 200 if left out, and of each FOLDER of dumps, asl.py
+makes ASL of the listing. Where iasl is there it compiles each block of which nothing is told, which has to give the
+dump's bytes again. 150 methods, grown by 1 to 70,000 bytes, are put into their dumps by splice.py: the listings
+differ in the lines that are new. unpack.py does as acpixtract does, where that is there. With --stop the first row
 that fails ends it. The last line is 'N passed, N failed'.
 """
 
@@ -21,24 +20,26 @@ import re
 import resource
 import shutil
 import subprocess
-import sys
 import tempfile
 
-from tally import DEMO, PROGRAM, TOP, Stopped, Tally, parser  # before the others, whose places it tells
+# Before the others, whose places it tells
+from tally import DEMO, PROGRAM, TOP, Stopped, Tally, parser, run_script, written
 import board
+import splice
 from acpidis_tools.asl.blocks import Block, Reader
 from acpidis_tools.asl.names import said_by
 from acpidis_tools.listing import NoListing
-from dumps import Dump
+from dumps import dumps_of
 from folders import read_folder
 from hostile import mutated
-from made_aml import method, packed, table
+from made_aml import device, method, scope, table, tables
 from made_plain import PlainMaker
 from made_sets import sealed
+from printing import file_text
 from running import REFUSED, Options, run
 from telling import HOSTILE_FILES, PAGES_FILES, RUNS_FILES
 
-ASL, SPLICE, UNPACK, SHOW = (TOP / "examples" / f"{script}.py" for script in ("asl", "splice", "unpack", "show"))
+ASL, SPLICE, UNPACK, SHOW = "asl.py", "splice.py", "unpack.py", "show.py"
 IASL, ACPIXTRACT = shutil.which("iasl"), shutil.which("acpixtract")
 HEADER, MOST_GROWN, GROWN = 36, 70_000, 150
 NOOP = b"\xA3"
@@ -50,15 +51,13 @@ class Checks(Tally):
         super().__init__(room, stops)
         self.same = self.told = 0
 
-    def folder(self, name, files):
-        place = self.room / name
-        place.mkdir()
-        for file, data in files.items():
-            (place / file).write_bytes(data)
-        return place
+    def run(self, script, *words, **more):
+        return run_script(script, *words, cwd=self.room, **more)
 
-    def run(self, script, *words):
-        return subprocess.run([sys.executable, script, *words], cwd=self.room, capture_output=True, text=True, check=False)
+    def text(self, name, text, encoding="ascii"):
+        """A file of the room."""
+        (self.room / name).write_text(text, encoding)
+        return self.room / name
 
     def says(self, what, words, status, said="", printed=None):
         """A script ends so, with these lines of standard error, and of standard output where these are told."""
@@ -89,15 +88,14 @@ def check_set(checks, name, dumps, options):
     outcome = run(dumps, options)
     if outcome.status == REFUSED:
         return
-    place = checks.folder(name, {})
-    text, out = place / "text", place / "out"
-    text.write_text(outcome.out, "ascii")
-    tables = checks.folder(f"{name}/dumps", {dump.name: dump.data for dump in dumps})
-    ran = checks.run(ASL, "--tables", tables, text, out)
+    place = written(checks.room / name / "dumps", {dump.name: dump.data for dump in dumps})
+    text, out = checks.text(f"{name}/text", outcome.out), checks.room / name / "out"
+    ran = checks.run(ASL, "--tables", place, text, out)
     told = {line.removeprefix("asl: ").partition(": ")[0] for line in ran.stderr.splitlines()}
     checks.is_so(f"{name}: {ran.stderr[-500:]}", ran.returncode in (0, 3) and "Traceback" not in ran.stderr)
-    files = dict(zip(re.findall(r'^DefinitionBlock \("(.*)"\) \{$', outcome.out, re.M), sorted(out.iterdir(), key=made_at)))
-    data = {escaped(dump.name): dump.data for dump in dumps}
+    made = sorted(out.iterdir(), key=lambda path: path.stat().st_mtime_ns)
+    files = dict(zip(re.findall(r'^DefinitionBlock \("(.*)"\) \{$', outcome.out, re.M), made))
+    data = {file_text(dump.name)[1:-1]: dump.data for dump in dumps}
     for file, path in files.items():
         checks.told += file in told
         if IASL and file not in told:
@@ -105,27 +103,14 @@ def check_set(checks, name, dumps, options):
             checks.is_so(f"{name}: {file} again", is_again(data[file], compiled(path)))
 
 
-def made_at(path):
-    return path.stat().st_mtime_ns
-
-
-def escaped(name):
-    return "".join(chr(it) if 0x20 <= it <= 0x7E and it not in b'"\\' else f"\\x{it:02X}" for it in name.encode())
-
-
 def plain_set(seed):
-    codes = PlainMaker(random.Random(seed)).tables()
-    names = ["dsdt.dat", *(f"ssdt{number}.dat" for number in range(1, len(codes)))]
-    return [Dump(name, None, table(name[:4].upper().encode(), code)) for name, code in zip(names, codes)]
+    return tables(*PlainMaker(random.Random(seed)).tables())
 
 
 def check_sets(checks, count, folders):
-    jobs = [
-        (name, [Dump(file, None, data) for file, data in files.items()], Options(any_run=True))
-        for name, files in SAMPLES.items()
-    ]
+    jobs = [(name, dumps_of(files), Options(any_run=True)) for name, files in SAMPLES.items()]
     jobs += [("demo", read_folder(DEMO), Options())]
-    jobs += [(f"plain{seed}", plain_set(seed), Options()) for seed in range(count)]
+    jobs += [(f"plain{seed}", dumps_of(plain_set(seed)), Options()) for seed in range(count)]
     for folder in map(pathlib.Path, folders):
         jobs.append((f"of_{folder.name}", read_folder(folder), Options(any_run=True, any_sum=True)))
     with concurrent.futures.ThreadPoolExecutor(os.cpu_count()) as pool:
@@ -180,7 +165,6 @@ def text_with(body, revision=2):
 
 
 def check_told(checks):
-    text = checks.room / "told.text"
     _, bodies, _, units = (TOP / "tests/unspelled.txt").read_text().split("\n\n")
     rows = [(*line.replace("\\n", "\n    ").split("  # "), 9, 2) for line in bodies.splitlines()]
     for unit, what in (line.split("  # ") for line in units.splitlines()):
@@ -188,19 +172,18 @@ def check_told(checks):
     rows += [(*SCOPED, 9, 2), (CALLED, BY_PATH, 9, 2)]
     wide = f"{WIDE} in a table of revision 1, whose integers have 4 bytes"
     for body, what, number, revision in [*rows, (f"Store ({WIDE}, Local0)", wide, 9, 1)]:
-        text.write_text(text_with(body, revision), "ascii")
+        text = checks.text("told.text", text_with(body, revision))
         checks.says(body, [ASL, text, "told"], 3, f"asl: a.dat: line {number}: {what}\n")
 
 
 def check_misread(checks):
-    text = checks.room / "misread.text"
     for content, what in MISREAD:
-        text.write_text(content, "utf-8")
+        text = checks.text("misread.text", content, "utf-8")
         for words in ([ASL, text, "misread"], [ASL, "--edit", text, "misread"]):
             checks.says(content[-300:], words, 1, f"asl: {str(text)!r}: {what}\n")
     checks.is_so("nothing is written", not (checks.room / "misread").exists())
     checks.says("no such text", [ASL, "nowhere", "out"], 2, "asl: 'nowhere': No such file or directory\n")
-    text.write_text(WHOLE, "ascii")
+    text = checks.text("misread.text", WHOLE)
     checks.says("a file in the way", [ASL, text, text], 2, f"asl: {str(text)!r}: File exists\n")
     text.write_bytes(WHOLE.replace("\n", "\r\n").encode())
     checks.says("lines as on Windows", [ASL, text, "windows"], 0)
@@ -210,17 +193,20 @@ def check_names(checks):
     """Files of names that a command could take for something else, and many blocks."""
     odd = ["-o", "a b;$(touch bad)", "..", "*/ \\x0A", "DSDT", "_-o"]
     for what, names in (("odd", odd), ("many", [f"f{number}.dat" for number in range(512)])):
-        tables = "".join(HEAD.format(2).replace('"a.dat" "DSDT"', f'"{name}" "SSDT"') for name in names)
+        heads = "".join(HEAD.format(2).replace('"a.dat" "DSDT"', f'"{name}" "SSDT"') for name in names)
         blocks = "".join(f'DefinitionBlock ("{name}") {{\n}}\n' for name in names)
-        (checks.room / f"{what}.text").write_text(f"{tables}Namespace 0\n{blocks}", "ascii")
-        checks.says(f"{what} names of files", [ASL, f"{what}.text", what], 0)
+        text = checks.text(f"{what}.text", f"{heads}Namespace 0\n{blocks}")
+        checks.says(f"{what} names of files", [ASL, text, what], 0)
         found = sorted(path.name for path in (checks.room / what).iterdir())
         is_harmless = all(re.fullmatch(r"[A-Za-z0-9_+][A-Za-z0-9_.-]*", it) for it in found)
         checks.is_so(f"files of harmless names: {found}", len(found) == len(names) and is_harmless)
 
 
-def processor_time():
-    return resource.getrusage(resource.RUSAGE_CHILDREN).ru_utime
+def seconds_of(checks, *words):
+    """The processor time of a script."""
+    before = resource.getrusage(resource.RUSAGE_CHILDREN).ru_utime
+    checks.run(*words)
+    return resource.getrusage(resource.RUSAGE_CHILDREN).ru_utime - before
 
 
 def check_speed(checks):
@@ -229,11 +215,8 @@ def check_speed(checks):
     head, _, body = block.partition('DefinitionBlock ("a.dat") {\n')
     times = []
     for size in (1_000_000, 4_000_000):
-        text = checks.room / f"{size}.text"
-        text.write_text(head + 'DefinitionBlock ("a.dat") {\n' + body[:-2] * (size // len(body)) + "}\n", "ascii")
-        before = processor_time()
-        checks.run(ASL, "--edit", text, f"of{size}")
-        times.append(processor_time() - before)
+        lines = 'DefinitionBlock ("a.dat") {\n' + body[:-2] * (size // len(body)) + "}\n"
+        times.append(seconds_of(checks, ASL, "--edit", checks.text(f"{size}.text", head + lines), f"of{size}"))
     checks.is_so(f"seconds of 1 MB and 4 MB: {times}", times[0] < 3 and times[1] < 8 * times[0])
 
 
@@ -251,13 +234,11 @@ def fault_of(path):
 
 def check_mutations(checks):
     """Damaged listings are read, or are no listings."""
-    outcomes = [
-        run([Dump(file, None, data) for file, data in files.items()], Options(any_run=True)) for files in SAMPLES.values()
-    ]
+    outcomes = [run(dumps_of(files), Options(any_run=True)) for files in SAMPLES.values()]
     dice, faults = random.Random(0), []
     for number in range(500):
-        (checks.room / "mutated").write_text(mutated(outcomes[number % len(outcomes)].out.splitlines(), dice), "ascii")
-        faults.append(fault_of(checks.room / "mutated"))
+        text = mutated(outcomes[number % len(outcomes)].out.splitlines(), dice)
+        faults.append(fault_of(checks.text("mutated", text)))
     checks.is_same("mutations", [fault for fault in faults if fault not in (None, NoListing)], [])
     refused = faults.count(NoListing)
     checks.is_so(f"{refused} are no listings", 20 < refused < 480)
@@ -268,9 +249,8 @@ def check_mutations(checks):
 
 def added(checks, name, dumps, options):
     """A statement is put into each method of a set: compiled alone, spliced, read, and the listings differ in its line."""
-    place = checks.folder(f"changed {name}", {dump.name: dump.data for dump in dumps})
-    text = checks.room / f"{name}.text"
-    text.write_text(listed(place, options), "ascii")
+    place = written(checks.room / f"changed {name}", {dump.name: dump.data for dump in dumps})
+    text = checks.text(f"{name}.text", listed(place, options))
     paths = re.findall(r"^  (\S+) Method [0-7]$", text.read_text(), re.M)
     for number, path in enumerate(paths):
         out = checks.room / f"{name}.{number}"
@@ -295,8 +275,7 @@ def added(checks, name, dumps, options):
 
 def check_edit(checks):
     """Whole tables to be changed are compiled, but with a name that nothing declares."""
-    place = checks.folder("edit", board.VERSIONS["first"])
-    (checks.room / "edit.text").write_text(listed(place), "ascii")
+    checks.text("edit.text", listed(written(checks.room / "edit", board.VERSIONS["first"])))
     checks.says("--edit", [ASL, "--edit", "edit.text", "edited"], 0)
     what = "asl: 'edited/dsdt.dat.asl' is there, and may have been changed: remove it, or name another folder\n"
     checks.says("--edit once more", [ASL, "--edit", "edit.text", "edited"], 2, what)
@@ -313,9 +292,9 @@ def check_edit(checks):
 # A method that only Externals name, called where it is found by a search and by its path; one without arguments; a unit.
 EXTERNALS = (
     b"\x15\\\x2E_SB_MPTS\x08\x01" + b"\x15\\\x2E_SB_MINI\x08\x00" + b"\x15\\UNIT\x05\x00"
-    + packed(b"\x10", b"\\_SB_" + packed(b"\x5B\x82", b"DEV0" + method(b"CALL", 0, b"\x5B\x12MPTS\0MPTS\x01\x70\x01UNIT")))
+    + scope(b"\\_SB_", device(b"DEV0", method(b"CALL", 0, b"\x5B\x12MPTS\0MPTS\x01\x70\x01UNIT")))
     + method(b"MAIN", 0, b"\\\x2E_SB_MPTS\x01" + b"\\\x2E_SB_MINI" + b"\xA4UNIT")
-)  # fmt: skip
+)
 
 
 def listed(folder, options=()):
@@ -324,7 +303,7 @@ def listed(folder, options=()):
 
 
 def spliced(checks, *words):
-    ran = subprocess.run([sys.executable, SPLICE, *words], cwd=checks.room, capture_output=True, check=False)
+    ran = checks.run(SPLICE, *words, text=False)
     checks.is_same(f"splice {words}", (ran.returncode, ran.stderr), (0, b""))
     return ran.stdout
 
@@ -345,8 +324,7 @@ def check_grown(checks):
     """Methods of made-up sets, each with so many more statements at its end."""
     chance, number = random.Random(0), 0
     for seed in itertools.takewhile(lambda _: number < GROWN, range(1000, 1200)):
-        dumps = plain_set(seed)
-        place = checks.folder(f"grown{seed}", {dump.name: dump.data for dump in dumps})
+        place = written(checks.room / f"grown{seed}", plain_set(seed))
         before = listed(place)
         paths = re.findall(r"^  (\S+) Method ([0-7])$", before, re.M)
         for path, count in chance.sample(paths, min(4, len(paths))):
@@ -367,10 +345,7 @@ def grown(checks, place, before, path, count, chance):
         return 0
     segments = path[1:].split(".")
     name = b"\\" + (b"/%c" % len(segments) if len(segments) > 1 else b"") + "".join(segments).encode()
-    content = name + body + NOOP * more
-    length = len(content) + 4
-    code = b"\x14" + bytes([0xC0 | length & 15]) + (length >> 4).to_bytes(3, "little") + content
-    (checks.room / "new.aml").write_bytes(table(b"SSDT", code))
+    (checks.room / "new.aml").write_bytes(table(b"SSDT", method(name, body[0], body[1:], NOOP * more)))
     file.write_bytes(spliced(checks, file, "new.aml", path))
     same = listed(place, ["--check"])
     checks.is_so(f"{place}: {path}: {same}", " Differs" not in same and f'Check "{file.name}"' in same)
@@ -381,8 +356,6 @@ def grown(checks, place, before, path, count, chance):
 
 def body_of(dump, path):
     """The flags and the body of a method of a dump, by splice.py's own reader."""
-    import splice
-
     try:
         place = splice.place_in(splice.code_of(dump, "dump"), path, "dump")
     except splice.Refused:
@@ -401,20 +374,18 @@ UNSPLICED = [
     ("broken new NAM1", "'splice/broken' can't be read behind byte 42"),
     ("old far DEV0.NAM0", "\\DEV0.NAM0 stands in the scope \\DEV0 of 'splice/old', and in \\ of 'splice/far'"),
 ]
-LENGTHS = "print(splice.spelled(63, 1), splice.spelled(64, 1), splice.spelled(4095, 2)); splice.spelled(1 << 28, 1)"
 
 
 def check_splice(checks):
     """What is refused, what else may be put in, revisions and archives."""
-    device = packed(b"\x5B\x82", b"DEV0" + b"\x08NAM0\x01" + method(b"MET0", 0, b""))
-    again = packed(b"\x10", b"\\DEV0" + method(b"MET0", 1, NOOP) + b"\x08NAM0\x0A\x07")
-    twice = method(b"TWIC", 0, b"") * 2
+    declared, twice = device(b"DEV0", b"\x08NAM0\x01", method(b"MET0", 0)), method(b"TWIC", 0) * 2
+    again = scope(b"\\DEV0", method(b"MET0", 1, NOOP), b"\x08NAM0\x0A\x07")
     files = {
-        "old": table(b"DSDT", device + b"\x08NAM1\x01" + twice), "new": table(b"SSDT", again + b"\x08NAM1\x0D1\x00"),
-        "other": table(b"SSDT", packed(b"\x5B\x82", b"NAM1")), "cut": table(b"SSDT", b"\x08NAM1")[:-1], "short": b"DSDT",
+        "old": table(b"DSDT", declared + b"\x08NAM1\x01" + twice), "new": table(b"SSDT", again + b"\x08NAM1\x0D1\x00"),
+        "other": table(b"SSDT", device(b"NAM1")), "cut": table(b"SSDT", b"\x08NAM1")[:-1], "short": b"DSDT",
         "broken": table(b"SSDT", b"\x08NAM1\x01\x02"), "far": table(b"SSDT", b"\x08\\.DEV0NAM0\x12\x06\x01NAM1"),
     }  # fmt: skip
-    checks.folder("splice", files)
+    written(checks.room / "splice", files)
     old, new = "splice/old", "splice/new"
     for words, what in UNSPLICED:
         one, other, path = words.split()
@@ -423,15 +394,19 @@ def check_splice(checks):
     checks.is_same("no path", checks.run(SPLICE, old, new, "1").returncode, 2)
     paths = "\\DEV0.MET0", "dev0.nam0", "\\NAM1"
     patched = spliced(checks, "--oem-revision", "--initrd", "acpi.cpio", old, new, *paths)
-    wanted = packed(b"\x5B\x82", b"DEV0" + b"\x08NAM0\x0A\x07" + method(b"MET0", 1, NOOP)) + b"\x08NAM1\x0D1\x00" + twice
+    wanted = device(b"DEV0", b"\x08NAM0\x0A\x07", method(b"MET0", 1, NOOP)) + b"\x08NAM1\x0D1\x00" + twice
     head = bytearray(files["old"][:HEADER])
     head[24] += 1
     checks.is_same("what is put in", patched, sealed(bytes(head) + wanted))
     check_archive(checks, patched)
-    ran = checks.run("-c", f"import sys; sys.path.insert(0, {str(TOP / 'examples')!r}); import splice; {LENGTHS}")
-    checks.is_same("lengths", ran.stdout, "b'?' b'@\\x04' b'O\\xff'\n")
-    said = "splice.Refused: a package would be longer than a package length can say\n"
-    checks.is_so("a length that no longer fits", ran.stderr.endswith(said))
+    lengths = [splice.spelled(*it) for it in ((63, 1), (64, 1), (4095, 2))]
+    checks.is_same("lengths", lengths, [b"?", b"@\x04", b"O\xff"])
+    try:
+        said = splice.spelled(1 << 28, 1)
+    except splice.Refused as fault:
+        said = str(fault)
+    wanted = "a package would be longer than a package length can say"
+    checks.is_same("a length that no longer fits", said, wanted)
     (checks.room / old).write_bytes(sealed(files["old"][:24] + b"\xFF" * 4 + files["old"][28:]))
     said = "splice: the OEM revision can't be raised: it is FFFFFFFF\n"
     checks.says("the last revision", [SPLICE, "--oem-revision", old, new, "NAM1"], 1, said)
@@ -484,7 +459,7 @@ def check_unpack(checks):
     ]:
         check_folder(checks, name, content, wanted)
     if ACPIXTRACT:
-        place = checks.folder("acpixtract", {})
+        place = written(checks.room / "acpixtract", {})
         subprocess.run([ACPIXTRACT, "-a", checks.room / "plain"], cwd=place, capture_output=True, check=False)
         checks.is_same("as acpixtract", files_in(place), names)
     for name, content, what in [
@@ -506,9 +481,7 @@ def check_unpack(checks):
     check_chain(checks)
     image = b"DSDT\xFF\xFF\x00\x00\1\0TEST  EXAMPLE \1\0\0\0TEST\1\0\0\0" * 30_000 + b"DSDT"
     (checks.room / "claims").write_bytes(image)
-    before = processor_time()
-    checks.run(UNPACK, "claims", "claims.d")
-    seconds = processor_time() - before
+    seconds = seconds_of(checks, UNPACK, "claims", "claims.d")
     checks.is_so(f"an image of 1 MB that claims many tables: {seconds} s", seconds < 3)
 
 
@@ -532,11 +505,10 @@ def check_chain(checks):
     root = bytearray(b"RSD PTR \0TEST  \2\0\0\0\0\x24\0\0\0" + (0x2000).to_bytes(8, "little") + bytes(4))
     root[8] = -sum(root[:20]) & 255
     root[32] = -sum(root) & 255
-    tables = [("RSD PTR", 0x1000, bytes(root)), ("XSDT", 0x2000, xsdt), ("FACP", 0x3000, fadt), ("DSDT", 0x4000, dsdt)]
-    tables += [("SSDT", 0x5000, ssdt)]
-    for name, known, lines in (("chain", tables, 5), ("broken chain", tables[1:], 0)):
-        (checks.room / name).write_text(acpidump(known))
-        checks.run(UNPACK, name, name + ".d")
+    dumped = [("RSD PTR", 0x1000, bytes(root)), ("XSDT", 0x2000, xsdt), ("FACP", 0x3000, fadt), ("DSDT", 0x4000, dsdt)]
+    dumped += [("SSDT", 0x5000, ssdt)]
+    for name, known, lines in (("chain", dumped, 5), ("broken chain", dumped[1:], 0)):
+        checks.run(UNPACK, checks.text(name, acpidump(known)), name + ".d")
         place = checks.room / f"{name}.d" / "tables.map"
         checks.is_same(name, len(place.read_text().splitlines()) if place.exists() else 0, lines)
         checks.is_so(f"{name} is read", "BBBB" in listed(checks.room / f"{name}.d"))
@@ -567,15 +539,14 @@ SHOWN = [
 
 def check_show(checks):
     """What is declared at a path, or at paths that end so."""
-    place = checks.folder("show", board.VERSIONS["first"])
-    text = checks.room / "show.text"
-    text.write_text(listed(place), "ascii")
+    place = written(checks.room / "show", board.VERSIONS["first"])
+    text = checks.text("show.text", listed(place))
     for path, wanted in SHOWN:
         checks.says(f"show {path}", [SHOW, text, path], 0, "", wanted)
     heads = checks.run(SHOW, text, "_hid").stdout.count("Name (_HID, ")
     checks.is_same("each _HID", heads, text.read_text().count("Name (_HID, "))
-    device = checks.run(SHOW, text, "EC0").stdout
-    checks.is_so("a device whole", device.count("{") == device.count("}") + 3 and "Method (_Q13" in device)
+    shown = checks.run(SHOW, text, "EC0").stdout
+    checks.is_so("a device whole", shown.count("{") == shown.count("}") + 3 and "Method (_Q13" in shown)
     checks.says("no such path", [SHOW, text, "\\SMI_"], 1, f"show: {str(text)!r} declares no such path\n")
     checks.is_same("no path", checks.run(SHOW, text, "1").returncode, 2)
     ran = checks.run(SHOW, place / "dsdt.dat", "SMI")
@@ -587,9 +558,8 @@ def check_forms(checks):
     code = b"\x5B\x82\x49\x01DEV0" + b"\x08\x2F\1NAM0\1" + method(b"NAM1", 0, b"")
     length = len(code) - 2
     code = code[:2] + bytes([0x40 | length & 15, length >> 4]) + code[4:]
-    data = table(b"DSDT", code)
-    place = checks.folder("forms", {"dsdt.dat": data})
-    (checks.room / "forms.text").write_text(listed(place), "ascii")
+    place = written(checks.room / "forms", tables(code))
+    checks.text("forms.text", listed(place))
     what = "asl: dsdt.dat: 2 of 2 lengths, 1 of 3 names aren't in their shortest form, which iasl writes\n"
     checks.says("forms", [ASL, "--tables", place, "forms.text", "formed"], 3, what)
     (place / "dsdt.dat").write_bytes(table(b"DSDT", b"\x08NAM0\1"))
@@ -618,9 +588,9 @@ def main():
         check_sets(checks, asked.sets, asked.folders)
         if IASL:
             for version, files in board.VERSIONS.items():
-                added(checks, version, [Dump(file, None, data) for file, data in files.items()], ["--any-run"])
+                added(checks, version, dumps_of(files), ["--any-run"])
             added(checks, "of the demo", read_folder(DEMO), [])
-            added(checks, "of Externals", [Dump("dsdt.dat", None, table(b"DSDT", EXTERNALS))], [])
+            added(checks, "of Externals", dumps_of(tables(EXTERNALS)), [])
             check_edit(checks)
     checks.end()
 

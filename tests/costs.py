@@ -61,23 +61,21 @@ def usage_of(*words):
     return usage
 
 
-def seconds_of(program, make, folder):
-    """The processor time of a check of a shape."""
-    folder.mkdir()
-    for file, content in shapes.one(lambda _size: make())(0).items():
-        measuring.write_file(folder / file, content)
-    usage = usage_of(program, "--check", "--workers", "1", folder)
-    return round(usage.ru_utime + usage.ru_stime, 2)
+def costs_of(program, folder, make, options=()):
+    """What a check of a set takes, which writes no text."""
+    measuring.write(folder, make)
+    command = [program, "--workers", "1", "--check", *options, "."]
+    answer = measuring.run(command, folder, 60) or measuring.Answer(60, 60, 0, None)
+    assert answer.status in (0, 3), (folder, answer)
+    return answer
 
 
-def costs_of(program, shape, folder):
-    """The processor time and the memory of a check of a bounded shape, which writes no text, each with its bound."""
-    measuring.write(folder, lambda: shape.make(shape.size))
+def bounded(program, shape, folder):
+    """The processor time and the memory of a check of a bounded shape, each with its bound."""
+    answer = costs_of(program, folder, lambda: shape.make(shape.size), shape.options(folder))
     most = STARTED_BYTES + BOUNDED[shape.name] * sum(file.stat().st_size for file in folder.iterdir())
-    command = [program, "--workers", "1", "--check", *shape.options(folder), "."]
-    _, seconds, peak, status = measuring.run(command, folder, 60) or (60, 60, 0, None)
-    assert status in (0, 3), (shape.name, status)
-    return (f"seconds: {shape.name}", round(seconds, 2), MOST_SECONDS), (f"bytes of memory: {shape.name}", peak, most)
+    yield f"seconds: {shape.name}", round(answer.processor, 2), MOST_SECONDS
+    yield f"bytes of memory: {shape.name}", answer.peak, most
 
 
 def measure(program, room):
@@ -90,17 +88,14 @@ def measure(program, room):
     length, writes, freed = count_calls(program, shim, folder)
     assert length > 100 * METHODS, length
     faults = usage_of(program, DEMO).ru_minflt - usage_of(program, "--version").ru_minflt
-    shaped = [
-        (f"seconds: {name}", seconds_of(program, make, room / str(number)), most)
-        for number, (name, (make, most)) in enumerate(SHAPES.items())
-    ]
-    return [
-        (f"writes of {length} bytes", writes, length // LEAST_WRITE),
-        ("blocks let go behind the last write", freed, MOST_FREED),
-        ("page faults of a small set", faults, MOST_FAULTS),
-        *shaped,
-        *(row for it in shapes.SHAPES if it.name in BOUNDED for row in costs_of(program, it, room / it.name)),
-    ]
+    yield f"writes of {length} bytes", writes, length // LEAST_WRITE
+    yield "blocks let go behind the last write", freed, MOST_FREED
+    yield "page faults of a small set", faults, MOST_FAULTS
+    for name, (make, most) in SHAPES.items():
+        answer = costs_of(program, room / name, lambda: shapes.one(lambda _: make())(0))
+        yield f"seconds: {name}", round(answer.processor, 2), most
+    for shape in (it for it in shapes.SHAPES if it.name in BOUNDED):
+        yield from bounded(program, shape, room / shape.name)
 
 
 def main():

@@ -17,15 +17,15 @@ import shutil
 import sys
 import tempfile
 
-from tally import DEMO, TOP, Tally  # before the others, whose places it tells
+from tally import DEMO, TOP, Tally, written  # before the others, whose places it tells
 from acpidis_tools.decoding import Decoder, bits_text, flag_words
 from dumps import order_of
 from folders import read_folder
 from acpidis_tools.identifiers import eisa_id, eisa_number, uuid_text
 from iasl import facts_of
-from acpidis_tools.listing import read_listing
+from acpidis_tools.listing import Listing, read_listing
 from acpidis_tools.names import FIELD_LISTS, Names
-from made_aml import buffer, device, method, packed, scope, table
+from made_aml import buffer, device, field, method, packed, region, scope, tables
 from acpidis_tools.resources import descriptors
 from running import REFUSED, Options, run_folder
 from acpidis_tools.standard import space_name, status_words
@@ -79,9 +79,6 @@ def check_words(checks: Tally) -> None:
     checks.is_same("places", got, wanted)
 
 
-# ---- a set with a bit of everything
-
-
 HPET = buffer(data_of("86 09 00 01 00 00 D0 FE 00 04 00 00 22 01 00 79 00"))
 UUID = buffer(data_of("5B 4D DB 33 F7 1F 1C 40 96 57 74 41 C0 3D D7 66"))
 # CreateDWordField (BUF0, 0x04, BASE), CreateBitField (BUF0, 0x68, BIT0)
@@ -89,13 +86,13 @@ PATCH = b"\x8ABUF0\x0A\x04BASE\x8DBUF0\x0A\x68BIT0"
 UNITS = b"\0\x08" + b"AAAA\1" + b"BBBB\7" + b"\1\3\0" + b"CCCC\x20"
 DEVICE = (
     b"\x08_HID\x0C\x41\xD0\x0C\x09" + b"\x08_CID" + packed(b"\x12", b"\2\x0DACPI0007\0\x0C\x41\xD0\x01\x03")
-    + b"\x08_STA\x0A\x0F" + b"\x5B\x80REG0\1\x0A\xB2\1" + packed(b"\x5B\x81", b"REG0\x11" + UNITS)
+    + b"\x08_STA\x0A\x0F" + region(b"REG0", 1, b"\x0A\xB2", b"\1") + field(b"REG0", 0x11, UNITS)
     + b"\x08BUF0" + HPET + PATCH + method(b"_CRS", 0, b"\x8BBUF0\1WORD" + b"\xA4BUF0") + method(b"_Q13", 0, b"")
     + method(b"_OSC", 0, packed(b"\xA0", b"\x93\x68" + UUID + b"\xA4\0") + b"\xA4\1")
     + method(b"_PRS", 0, b"\x08BUF1" + HPET + b"\x8ABUF1\x0A\x08LEN0\xA4BUF1")
 )
 PINS = "8C 1E 00 01 01 01 00 09 00 00 00 00 00 00 17 00 00 1B 00 21 00 00 00 01 00 02 00 LONG"
-LINES = b"\x5B\x80GPO0\x08\0\1" + packed(b"\x5B\x81", b"GPO0\1" + b"\2" + buffer(data_of(PINS)) + b"PIN0\1")
+LINES = region(b"GPO0", 8, b"\0", b"\1") + field(b"GPO0", 1, b"\2" + buffer(data_of(PINS)) + b"PIN0\1")
 CODE = scope(b"\\_SB_", device(b"EC0_", DEVICE, LINES))
 
 
@@ -127,14 +124,20 @@ OBJECTS = (
 )  # fmt: skip
 
 
+def decoded(folder: pathlib.Path, options: Options = Options()) -> tuple:
+    """The listing of a folder, and what decodes it; None where it is refused."""
+    outcome = run_folder(folder, options)
+    if outcome.status == REFUSED:
+        return None
+    listing = read_listing(outcome.out.encode())
+    return listing, Decoder(listing, Names(listing))
+
+
 def check_objects(checks: Tally, room: pathlib.Path) -> None:
     """Predefined objects in words, and values of another form without any."""
     code = device(b"PCI0", OBJECTS)
     odd = device(b"PCI1", b"\x08_PRT" + package(b"\0", package(b"\0")), b"\x08_UPC\0", b"\x08_WDG" + HPET)
-    (room / "objects").mkdir()
-    (room / "objects/dsdt.dat").write_bytes(table(b"DSDT", code + odd))
-    listing = read_listing(run_folder(room / "objects", Options()).out.encode())
-    decoder = Decoder(listing, Names(listing))
+    listing, decoder = decoded(written(room / "objects", tables(code + odd)))
     found = [(line.words[1], row) for line in listing.lines for row in decoder.rows(line)]
     wanted = [("PR00", route) for route in (
         "device 0x01 INTA to LNKA", "device 0x1F INTB to interrupt 19", "device 0x02 function 1 INTC to LNKB 3",
@@ -151,8 +154,7 @@ def check_objects(checks: Tally, room: pathlib.Path) -> None:
 
 
 def check_notes(checks: Tally, folder: pathlib.Path) -> None:
-    listing = read_listing(run_folder(folder, Options()).out.encode())
-    decoder = Decoder(listing, Names(listing))
+    listing, decoder = decoded(folder)
     said = {}
     for line in listing.blocks[0].lines:
         notes = decoder.notes(line) + [text for one in decoder.templates(line) for text in one.texts()]
@@ -163,16 +165,9 @@ def check_notes(checks: Tally, folder: pathlib.Path) -> None:
     checks.is_same("the notes of a set", short, wanted)
 
 
-# ---- beside iasl
-
-
-def our_facts(folder: pathlib.Path) -> dict[str, dict[str, list]] | None:
-    """By each file what the modules say, in the order of the text; None where the set is refused."""
-    outcome = run_folder(folder, Options(any_sum=True, any_run=True))
-    if outcome.status == REFUSED:
-        return None
-    listing = read_listing(outcome.out.encode())
-    decoder, found = Decoder(listing, Names(listing)), {}
+def our_facts(listing: Listing, decoder: Decoder) -> dict[str, dict[str, list]]:
+    """By each file what the modules say, in the order of the text."""
+    found = {}
     for block in listing.blocks:
         facts = found[block.file[1:-1]] = {"resources": [], "UUIDs": [], "EISA ids": [], "spaces": [], "flags": [], "units": []}
         for line in block.lines:
@@ -192,11 +187,11 @@ def our_facts(folder: pathlib.Path) -> dict[str, dict[str, list]] | None:
 
 def compare(checks: Tally, what: str, folder: pathlib.Path) -> None:
     """What is said of a set beside iasl's text of each of its tables."""
-    ours = our_facts(folder)
-    if ours is None:
+    read = decoded(folder, Options(any_sum=True, any_run=True))
+    if read is None:
         print(f"{what} is refused: nothing is compared")
         return
-    dumps = read_folder(folder)
+    ours, dumps = our_facts(*read), read_folder(folder)
     with tempfile.TemporaryDirectory() as room:
         for index in order_of(dumps, True):
             theirs = facts_of(dumps[index].data, pathlib.Path(room))
@@ -204,27 +199,19 @@ def compare(checks: Tally, what: str, folder: pathlib.Path) -> None:
                 print(f"{what}, {dumps[index].name}: iasl -d fails, and nothing is compared")
                 continue
             for kind, facts in ours[dumps[index].name].items():
-                different = differences(facts, theirs[kind])
+                lines = difflib.unified_diff(theirs[kind], facts, lineterm="", n=0)
+                different = [line for line in lines if not line.startswith(("---", "+++", "@@"))]
                 checks.is_same(f"{kind} of {what}, {dumps[index].name}", different, [])
-
-
-def differences(ours: list, theirs: list) -> list:
-    lines = difflib.unified_diff(theirs, ours, "iasl", "here", lineterm="", n=0)
-    return [line for line in lines if not line.startswith(("---", "+++", "@@"))]
 
 
 def made_set(room: pathlib.Path) -> pathlib.Path:
     """The set of the notes, and an SSDT with a buffer of all descriptors that iasl of 2020 knows."""
-    folder = room / "made"
-    folder.mkdir()
     rows = [row.rpartition(": ") for row in ROWS]
     # iasl wants those that begin and end a list of choices in one buffer.
     choices = [code for text, _, code in rows if "Dependent" in text]
     codes = [code for text, _, code in rows if "Dependent" not in text] + [" ".join([*choices[:2], rows[0][2], choices[2]])]
     one = b"".join(b"\x08" + b"R%03d" % number + buffer(data_of(code) + b"\x79\0") for number, code in enumerate(codes))
-    (folder / "dsdt.dat").write_bytes(table(b"DSDT", CODE))
-    (folder / "ssdt1.dat").write_bytes(table(b"SSDT", one))
-    return folder
+    return written(room / "made", tables(CODE, one))
 
 
 def main() -> None:

@@ -17,9 +17,9 @@ import subprocess
 import sys
 import tempfile
 
-from made_aml import device, packed as block, table
-from pages import TOP
-from tally import Stopped, Tally
+# Before the others, whose places it tells
+from tally import TOP, Stopped, Tally, on_full_disk, run_script, written
+from made_aml import device, packed as block, scope, table, tables
 
 
 def method(name, body, flags=0):
@@ -28,7 +28,7 @@ def method(name, body, flags=0):
 
 SUN = b"\x08_SUN\x01"
 EJECT = b"\\\x2f\x03_SB_PHPRPCEJ_SUN\x0a\x07"
-EJECTS = block(b"\x10", b"\\_SB_" + b"".join(device(b"S00%d" % n, SUN, method(b"_EJ0", EJECT, 1)) for n in range(3)))
+EJECTS = scope(b"\\_SB_", *(device(b"S00%d" % n, SUN, method(b"_EJ0", EJECT, 1)) for n in range(3)))
 SIZE = b"\x94\x87FOO_\x0a\x05\x0a\x04"  # LGreater (SizeOf (FOO_ (0x05)), 0x04)
 BRANCH = b"\x08CCCC\0" + device(b"DEV0", SUN, block(b"\xa0", b"\x93CCCC\x01" + method(b"FOO_", b"", 1)))
 REGION = b"\x5b\x80REG0\0"
@@ -70,7 +70,7 @@ SETS = {
     "promised": [b"\x15PCRB\x08\x02PCRB\x01\x01" + method(b"PCRB", b"", 1)],
     "shifted": [method(b"FOO_", b"", 1) + REGION + b"FOO_\x01\x04"],
     "twice": [SUN, SUN],
-    "wants": [SUN, block(b"\x10", b"\\RP99" + method(b"HOTP", b"", 2)), device(b"RP99")],
+    "wants": [SUN, scope(b"\\RP99", method(b"HOTP", b"", 2)), device(b"RP99")],
     "argument": [REGION + b"FOO_\x01" + method(b"FOO_", b"", 1)],
     "returns": [b"\xa4\0"],
 }
@@ -89,11 +89,8 @@ DefinitionBlock ("a") {{
 
 
 class Tries(Tally):
-    def folder(self, name, code, file="dsdt.dat", *ssdts):
-        (self.room / name).mkdir()
-        (self.room / name / file).write_bytes(table(b"DSDT", code))
-        for number, more in enumerate(ssdts, 1):
-            (self.room / name / f"ssdt{number}.dat").write_bytes(table(b"SSDT", more))
+    def folder(self, name, code, file="dsdt.dat"):
+        written(self.room / name, {file: table(b"DSDT", code)})
         return name
 
     def fake(self, name, text):
@@ -103,8 +100,7 @@ class Tries(Tally):
         return str(self.room / name)
 
     def run(self, script, *words, **variables):
-        words, how = [sys.executable, TOP / "examples" / script, *words], {"capture_output": True, "text": True, "check": False}
-        return subprocess.run(words, cwd=self.room, env={**os.environ, **variables}, **how)
+        return run_script(script, *words, cwd=self.room, env={**os.environ, **variables})
 
     def row(self, name, run, status, out, *said):
         """This status and standard output, and these lines among those of standard error."""
@@ -116,8 +112,8 @@ class Tries(Tally):
 
 def try_rows(tries):
     """The rows of tests/examples.txt."""
-    for name, (dsdt, *ssdts) in SETS.items():
-        tries.folder(name, dsdt, "dsdt.dat", *ssdts)
+    for name, codes in SETS.items():
+        written(tries.room / name, tables(*codes))
     (tries.room / "given").write_text(GIVEN)
     tries.fake("marked", f"cat <<'END'\n{MARKED}END\n")
     for part in (TOP / "tests/examples.txt").read_text().split("\n== ")[1:]:
@@ -138,20 +134,16 @@ def try_many_missing(tries):
     aren't, and end with a word."""
     names = [b"X%03d" % number for number in range(300)]
     many = b"".join(method(b"M" + name[1:], b"\xa4" + name) for name in names)
-    found = tries.run("missing.py", "--try", tries.folder("many", many), ACPIDIS=counting(tries, "many"))
+    launched = subprocess.run([TOP / "acpidis", "--program"], capture_output=True, text=True, check=False)
+    program, calls = os.environ.get("ACPIDIS") or launched.stdout.rstrip("\n"), tries.room / "calls"
+    counting = tries.fake("counting", f"echo run >>'{calls}'\nexec '{program}' \"$@\"\n")
+    found = tries.run("missing.py", "--try", tries.folder("many", many), ACPIDIS=counting)
     wanted = "".join(f"\\{name.decode()} 0\n" for name in names)
     tries.row("300 names", found, 0, wanted, "# \\X299: 1 body waits, the first \\M299 at 1")
-    tries.is_so("few runs", len((tries.room / "many.calls").read_text().splitlines()) < 30)
+    tries.is_so("few runs", len(calls.read_text().splitlines()) < 30)
     pair = method(b"MAIN", b"\x72AAAA\\BBBB\1\x60") + method(b"NEXT", b"\x70BBBB\x0a\1\x5b\x31")
     found = tries.run("missing.py", tries.folder("pair", pair))
     tries.row("two names of one body", found, 0, "\\AAAA ?\n\\BBBB ?\n", "#   with 0: 1 reads")
-
-
-def counting(tries, name):
-    """The program, with a line in a file for each run of it."""
-    run = subprocess.run([TOP / "acpidis", "--program"], capture_output=True, text=True, check=False)
-    program = os.environ.get("ACPIDIS") or run.stdout.rstrip("\n")
-    return tries.fake(f"{name}.sh", f"echo run >>'{tries.room}/{name}.calls'\nexec '{program}' \"$@\"\n")
 
 
 def try_refused(tries):
@@ -211,12 +203,8 @@ def try_damage(tries):
     found = tries.run("refused.py", "twice")
     tries.is_so("the text of acpidump", "Way on: `acpidis-unpack FILE FOLDER`" in found.stdout and not found.stderr)
     (tries.room / "twice/notes.txt").unlink()
-    with open("/dev/full", "wb") as full:
-        run = subprocess.run(
-            [sys.executable, TOP / "examples/refused.py", "twice"], cwd=tries.room, stdout=full, stderr=subprocess.PIPE,
-            text=True, check=False,
-        )
-    tries.is_so("a full disk", run.returncode == 2 and run.stderr == "refused: cannot write: No space left on device\n")
+    said = "refused: cannot write: No space left on device\n"
+    tries.is_same("a full disk", on_full_disk("refused.py", "twice", cwd=tries.room), (2, said))
     tries.folder("damaged", BRANCH)
     data, file = table(b"DSDT", BRANCH + REGION), tries.room / "damaged/dsdt.dat"
     for at, byte in itertools.product(range(36, 86, 7), (0x00, 0x5B, 0xFF)):
@@ -229,9 +217,7 @@ def nested(levels):
     """Devices in each other, around a Name."""
     code = b"\x08DUPE\0"
     for level in range(levels):
-        size = len(code) + 4
-        length = bytes([size + 1]) if size + 1 < 64 else bytes([0x40 | (size + 2) & 15, size + 2 >> 4])
-        code = b"\x5b\x82" + length + b"S%03d" % level + code
+        code = device(b"S%03d" % level, code)
     return code
 
 

@@ -12,7 +12,6 @@ here, many machines with shared code, and what the command line refuses. The las
 import ast
 import contextlib
 import hashlib
-import importlib.util
 import io
 import json
 import os
@@ -22,25 +21,18 @@ import subprocess
 import sys
 import tempfile
 
-from tally import TOP, parser  # before the others, whose places it tells
+# Before the others, whose places it tells
+from tally import TOP, Tally, first_difference, module_of, on_full_disk, parser, run_script, written
 from acpidis_tools import command
 from board import VERSIONS
-from dumps import aml_of, order_of
-from folders import read_folder
 from loading import path_text
-from made_aml import buffer, device, table
-from page import Checks, first_difference
+from made_aml import buffer, device, region, table, tables
 from running import REFUSED, Options, Outcome, run_folder
 from acpidis_tools.schema import COLUMNS, REFERENCES
-from telling import Teller, samples, small, written
+from telling import Teller, samples, small, teller_of
 
 FACTS = TOP / "examples/facts.py"
-SPEC = importlib.util.spec_from_file_location("facts_script", FACTS)
-facts_script = importlib.util.module_from_spec(SPEC)
-SPEC.loader.exec_module(facts_script)
-
-
-# ---- what the independent reading says
+facts_script = module_of("facts_script", FACTS)
 
 
 def regions_told(teller: Teller, has_raw: bool) -> list:
@@ -72,9 +64,6 @@ def names_told(teller: Teller) -> set:
     return found
 
 
-# ---- what the facts say
-
-
 class Read:
     """The rows of the facts of a listing by their tables, each as a dictionary."""
 
@@ -86,64 +75,42 @@ class Read:
     def of(self, table: str) -> list:
         return self.rows.get(table, [])
 
-    def names(self) -> set:
-        return {
-            (row["path"], row["kind"], row["arguments"], row["stands"], row["times"]) for row in self.of("name")
-            if row["stands"] in ("always", "maybe")
-        }
-
-    def uses(self) -> list:
-        return [
-            (
-                self.methods.get(row["method"]), row["scope"], row["text"], self.paths.get(row["name"]), row["is_local"],
-                row["place"], row["how"],
-            )
-            for row in self.of("use")
-        ]
-
-    def regions(self) -> list:
-        return [
-            (self.methods.get(row["method"]), row["path"], row["space"], row["first"], row["length"]) for row in self.of("region")
-        ]
-
-    def units(self) -> list:
-        return [
-            (self.methods.get(row["method"]), row["path"], row["made_by"], row["bit"], row["width"]) for row in self.of("field")
-            if not row["made_by"].startswith("Create")
-        ]
+    def told(self, table: str, columns: str) -> list:
+        """Some columns of each row, with the paths of methods and names in place of their numbers."""
+        shown = {"method": self.methods, "name": self.paths}
+        told = lambda row, column: shown[column].get(row[column]) if column in shown else row[column]
+        return [tuple(told(row, column) for column in columns.split()) for row in self.of(table)]
 
 
-def check_set(checks: Checks, what: str, folder: pathlib.Path, options: Options, outcome: Outcome) -> None:
+def check_set(checks: Tally, what: str, folder: pathlib.Path, options: Options, outcome: Outcome) -> None:
     """Compares the facts of a set."""
     checks.is_same(f"{what} is taken", outcome.status != REFUSED, True)
     fault, rows = facts_script.facts_of(outcome.out.encode(), outcome.err.encode())
     checks.is_same(f"the facts of {what}", fault, "")
-    read, dumps = Read(rows), read_folder(folder)
-    teller = Teller([aml_of(dumps[index].data) for index in order_of(dumps, options.any_sum)], options)
-    checks.is_same(f"the names of {what}", sorted(read.names() ^ names_told(teller), key=str), [])
-    checks.is_same(f"the uses of {what}", first_difference(read.uses(), teller.uses), None)
+    read, teller = Read(rows), teller_of(folder, options)
+    names = {row for row in read.told("name", "path kind arguments stands times") if row[3] in ("always", "maybe")}
+    checks.is_same(f"the names of {what}", sorted(names ^ names_told(teller), key=str), [])
+    uses = read.told("use", "method scope text name is_local place how")
+    checks.is_same(f"the uses of {what}", first_difference(uses, teller.uses), None)
     raw = outcome.err.count("\n")
-    regions = sorted(regions_told(teller, raw > 0), key=str)
-    checks.is_same(f"the regions of {what}", sorted(read.regions(), key=str), regions)
-    checks.is_same(f"the units of {what}", read.units(), teller.units)
+    regions = sorted(read.told("region", "method path space first length"), key=str)
+    checks.is_same(f"the regions of {what}", regions, sorted(regions_told(teller, raw > 0), key=str))
+    units = [row for row in read.told("field", "method path made_by bit width") if not row[2].startswith("Create")]
+    checks.is_same(f"the units of {what}", units, teller.units)
     found = sum(row["is_raw"] and row["fault"] is not None for row in read.of("method"))
     checks.is_same(f"the raw bodies of {what}", found, raw)
-    checks.is_same(f"the lines of {what}", wrong_lines(read, outcome.out), [])
-    for table, found in rows.items():
-        checks.is_same(f"the rows of {table} of {what}", [row[0] for row in found], list(range(1, len(found) + 1)))
-
-
-def wrong_lines(read: Read, out: str) -> list:
-    """The uses whose line of the text doesn't have their name."""
-    lines = out.splitlines()
-    return [row for row in read.of("use") if row["text"] not in lines[row["line"] - 1]]
+    lines = outcome.out.splitlines()
+    wrong = [row for row in read.of("use") if row["text"] not in lines[row["line"] - 1]]
+    checks.is_same(f"the lines of {what}, with the names that are used there", wrong, [])
+    for name, found in rows.items():
+        checks.is_same(f"the rows of {name} of {what}", [row[0] for row in found], list(range(1, len(found) + 1)))
 
 
 # ---- the rest, as it is run
 
 
-def run(*words: object, **more: object) -> subprocess.CompletedProcess:
-    return subprocess.run([sys.executable, FACTS, *map(str, words)], capture_output=True, text=True, check=False, **more)
+def run(*words: object) -> subprocess.CompletedProcess:
+    return run_script("facts.py", *words)
 
 
 def rows_of(file: pathlib.Path, sql: str) -> list:
@@ -155,21 +122,18 @@ def written_texts(room: pathlib.Path, sets: dict) -> pathlib.Path:
     """The texts and errors of some sets, as docs/many.md has them."""
     for name, files in sets.items():
         outcome = run_folder(written(room / "sets" / name, files), Options())
-        (room / "texts" / name).mkdir(parents=True)
-        (room / "texts" / name / "text").write_text(outcome.out)
-        (room / "texts" / name / "errors").write_text(outcome.err)
+        written(room / "texts" / name, {"text": outcome.out.encode(), "errors": outcome.err.encode()})
     return room / "texts"
 
 
-def check_many(checks: Checks, room: pathlib.Path) -> None:
+def check_many(checks: Tally, room: pathlib.Path) -> None:
     """Machines with one code, and machines without facts."""
     first = VERSIONS["first"]
     sets = {"rack/a": first, "rack/b": {**first, "dmar.dat": first["dmar.dat"][:-1] + b"\7"}, "none": {"notes": b"no table"}}
     sets["rack/b"] |= {"dmar.dat": table(b"DMAR", b"\7\7", b"BOARD"), "more.dat": table(b"MORE", b"", b"BOARD")}
     texts = written_texts(room, {**sets, "second": VERSIONS["second"]})
-    (texts / "cut").mkdir()
-    lines = (texts / "second/text").read_text().splitlines(keepends=True)
-    (texts / "cut/text").write_text("".join(lines[:20]))
+    lines = (texts / "second/text").read_bytes().splitlines(keepends=True)
+    written(texts / "cut", {"text": b"".join(lines[:20])})
     found = run("--jobs", 2, "--dumps", room / "sets", texts, room / "facts")
     checks.is_same("the status of many machines", (found.returncode, found.stdout), (3, ""))
     checks.is_same("what is said of them", found.stderr.partition(";")[0], "facts: 2 of 5 machines without facts")
@@ -180,9 +144,7 @@ def check_many(checks: Checks, room: pathlib.Path) -> None:
     counts = {name: len(rows_of(room / "facts", f"SELECT id FROM {name}")) for name in COLUMNS}
     lines = [json.loads(line) for line in run("--json", "--dumps", room / "sets", texts).stdout.splitlines()]
     checks.is_same("lines of JSON", {name: sum(line["fact"] == name for line in lines) for name in COLUMNS}, counts)
-    (room / "flat").mkdir()
-    for name in ("one", "two"):
-        (room / "flat" / name).write_text((texts / "rack/a/text").read_text())
+    written(room / "flat", dict.fromkeys(("one", "two"), (texts / "rack/a/text").read_bytes()))
     run(room / "flat", room / "flat.facts")
     names = {(line["id"], line["path"]) for line in lines if line["fact"] == "name"}
     checks.is_same("their names", names, set(rows_of(room / "facts", "SELECT id, path FROM name")))
@@ -213,7 +175,7 @@ class Terminal(io.StringIO):
         return True
 
 
-def check_progress(checks: Checks) -> None:
+def check_progress(checks: Tally) -> None:
     """A line on a terminal alone, and from two seconds on."""
     for stream, after, wanted in ((Terminal(), 0, "\rmachine 1\r\x1b[K"), (Terminal(), 2, ""), (io.StringIO(), 0, "")):
         with contextlib.redirect_stderr(stream):
@@ -225,25 +187,17 @@ def check_progress(checks: Checks) -> None:
         checks.is_same("progress", stream.getvalue(), wanted)
 
 
-def check_fleet(checks: Checks, room: pathlib.Path) -> None:
+def check_fleet(checks: Tally, room: pathlib.Path) -> None:
     """A machine that can't be read takes no other's facts with it."""
-    good = (room / "texts/rack/a/text").read_text()
-    fleet = room / "fleet"
-    for number in range(12):
-        place = fleet / f"good{number:02d}"
-        place.mkdir(parents=True)
-        (place / "text").write_text(good.replace(", 0x80)", f", 0x{number:02X})"))
-    for name in ("ENDED", "LARGE"):
-        (fleet / name).mkdir()
-        (fleet / name / "text").write_text(good.replace("_INI", name[:4]) + f"{name}\n")
-    os.mkdir(os.fsencode(fleet) + b"/odd\xff")
-    with open(os.fsencode(fleet) + b"/odd\xff/text", "w") as text:
-        text.write(good)
-    (fleet / "pipe").mkdir()
-    os.mkfifo(fleet / "pipe/text")
-    (fleet / "long").mkdir()
-    (fleet / "long/text").write_text("\n" * 1_000_001)
-    words = [sys.executable, "-c", ENDS, FACTS, "--jobs", "2", fleet, room / "fleet.facts"]
+    good = (room / "texts/rack/a/text").read_bytes()
+    texts = {f"good{number:02d}": good.replace(b", 0x80)", b", 0x%02X)" % number) for number in range(12)}
+    texts |= {name: good.replace(b"_INI", name[:4].encode()) + f"{name}\n".encode() for name in ("ENDED", "LARGE")}
+    texts |= {"odd\udcff": good, "long": b"\n" * 1_000_001}
+    for name, text in texts.items():
+        written(room / "fleet" / name, {"text": text})
+    (room / "fleet/pipe").mkdir()
+    os.mkfifo(room / "fleet/pipe/text")
+    words = [sys.executable, "-c", ENDS, FACTS, "--jobs", "2", room / "fleet", room / "fleet.facts"]
     found = subprocess.run(list(map(str, words)), capture_output=True, text=True, check=False, timeout=60)
     checks.is_same(f"the status of a fleet: {found.stderr}", (found.returncode, found.stderr.count("\n")), (3, 1))
     machines = dict(rows_of(room / "fleet.facts", "SELECT name, fault FROM machine WHERE fault IS NOT NULL"))
@@ -268,18 +222,15 @@ WIRED = bytes.fromhex(
 def make_more(room: pathlib.Path) -> None:
     """Facts of the fields of tables, statements, resources and regions, for questions."""
     run(TOP / "tests/records.text", room / "records.facts")
-    code = device(b"DEV0", b"\x08_CRS" + buffer(WIRED))
-    outcome = run_folder(written(room / "wired", {"dsdt.dat": table(b"DSDT", code)}), Options())
-    (room / "wired.text").write_text(outcome.out)
-    run(room / "wired.text", room / "wired.facts")
-    inner = device(b"DEV1", b"\x5B\x80REG1\x02\0\x01")
-    code = device(b"DEV0", b"\x08_ADR\x0C\x03\x00\x1F\x00\x5B\x80REG0\x02\x0A\x40\x01", inner)
-    outcome = run_folder(written(room / "pci", {"dsdt.dat": table(b"DSDT", code)}), Options())
-    (room / "pci.text").write_text(outcome.out)
-    run(room / "pci.text", room / "pci.facts")
+    inner = device(b"DEV1", region(b"REG1", 2, b"\0", b"\x01"))
+    bus = device(b"DEV0", b"\x08_ADR\x0C\x03\x00\x1F\x00", region(b"REG0", 2, b"\x0A\x40", b"\x01"), inner)
+    for name, code in (("wired", device(b"DEV0", b"\x08_CRS" + buffer(WIRED))), ("pci", bus)):
+        outcome = run_folder(written(room / name, tables(code)), Options())
+        (room / f"{name}.text").write_text(outcome.out)
+        run(room / f"{name}.text", room / f"{name}.facts")
 
 
-def check_questions(checks: Checks, room: pathlib.Path) -> None:
+def check_questions(checks: Tally, room: pathlib.Path) -> None:
     """The questions of tests/facts.txt, each with a row of its answer a line."""
     for part in (TOP / "tests/facts.txt").read_text().split("\n== ")[1:]:
         head, *lines = part.strip("\n").split("\n")
@@ -299,26 +250,22 @@ def columns_text() -> list:
     return lines
 
 
-def check_words(checks: Checks, room: pathlib.Path) -> None:
+def check_words(checks: Tally, room: pathlib.Path) -> None:
     """What the command line refuses, and outputs that take nothing."""
     text = room / "texts/rack/a/text"
-    for words in ([text], ["--json", text, room / "out"], ["--jobs", "0", text, room / "out"], []):
-        checks.is_same(f"status of {words}", run(*words).returncode, 2)
     out = room / "out"
-    for words in ([room / "sets/none/notes", out], [room / "nowhere", out], ["--errors", text, text, out]):
+    for words in ([text], ["--json", text, out], ["--jobs", "0", text, out], []):
+        checks.is_same(f"status of {words}", run(*words).returncode, 2)
+    others = [room / "sets/none/notes", out], [room / "nowhere", out], ["--errors", text, text, out]
+    for status, words in [*((1, words) for words in others), (2, [text, "/dev/full/facts"])]:
         found = run(*words)
-        checks.is_same(f"{words}: {found.stderr}", (found.returncode, found.stderr.count("\n")), (1, 1))
-    found = run(text, "/dev/full/facts")
-    checks.is_same(f"a file that can't be made: {found.stderr}", (found.returncode, found.stderr.count("\n")), (2, 1))
-    (room / "listed/none/dumps").mkdir(parents=True)
-    (room / "listed/none/dumps/dsdt.dat").write_bytes(b"DSDT")
+        checks.is_same(f"{words}: {found.stderr}", (found.returncode, found.stderr.count("\n")), (status, 1))
+    written(room / "listed/none/dumps", {"dsdt.dat": b"DSDT"})
     found = run(room / "listed/none", room / "none")
     said = f"facts: no listing is in {str(room / 'listed/none')!r}: a file `text` is one, in a folder of each machine\n"
     checks.is_same("a folder without a listing", (found.returncode, found.stderr), (1, said))
-    with open("/dev/full", "wb") as full:
-        words = [sys.executable, FACTS, "--json", text]
-        found = subprocess.run(words, stdout=full, stderr=subprocess.PIPE, text=True, check=False)
-    checks.is_same("a full disk", (found.returncode, found.stderr), (2, "facts: cannot write: No space left on device\n"))
+    said = "facts: cannot write: No space left on device\n"
+    checks.is_same("a full disk", on_full_disk("facts.py", "--json", text), (2, said))
     lines = [line for line in (TOP / "docs/facts.md").read_text().splitlines() if line.partition(" ")[0] in COLUMNS]
     checks.is_same("the columns of docs/facts.md", lines, columns_text())
 
@@ -329,7 +276,7 @@ def main() -> None:
     asked = words.parse_args()
     with tempfile.TemporaryDirectory() as room:
         room = pathlib.Path(room)
-        checks = Checks(room)
+        checks = Tally(room)
         for sample in samples(room, asked.folders, asked.sets):
             check_set(checks, *sample)
         (room / "many").mkdir()

@@ -77,15 +77,9 @@ cut_off() {
 
 # table FILE SIGNATURE AML: writes a table with this AML, which is given in hexadecimal digits
 table() {
-    python3 - "$@" <<'P'
-import sys
-
-file, signature, digits = sys.argv[1:]
-code = bytes.fromhex(digits)
-table = bytearray(signature.encode() + (36 + len(code)).to_bytes(4, "little") + b"\2\0TEST  EXAMPLE \1\0\0\0TEST\1\0\0\0" + code)
-table[9] = -sum(table) % 256
-open(file, "wb").write(table)
-P
+    PYTHONPATH=$top/tests python3 -B -c 'import sys
+from made_aml import table
+open(sys.argv[1], "wb").write(table(sys.argv[2].encode(), bytes.fromhex(sys.argv[3])))' "$@"
 }
 
 cp "$top/crates/acpidis_program/stdout" demo.text

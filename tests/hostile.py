@@ -9,17 +9,16 @@ listings, 200 if left out, for page.py and facts.py: nothing but a word may come
 'N passed, N failed'.
 """
 
-import importlib.util
 import os
 import pathlib
 import random
 import re
 import resource
 import subprocess
-import sys
 import tempfile
 
-from tally import TOP, Tally, parser  # before the others, whose places it tells
+# Before the others, whose places it tells
+from tally import TOP, Tally, module_of, on_full_disk, parser, run_script, written
 from acpidis_tools.decoding import Decoder
 from acpidis_tools.errors import read_errors
 from acpidis_tools.listing import NoListing, read_listing
@@ -27,12 +26,9 @@ from acpidis_tools.page.markup import page
 from acpidis_tools.names import Names
 from running import Options, run_folder
 from acpidis_tools.page.sheet import Sheet
-from telling import HOSTILE_FILES, RUNS_FILES, written
+from telling import HOSTILE_FILES, RUNS_FILES
 
-SPEC = importlib.util.spec_from_file_location("facts_script", TOP / "examples/facts.py")
-facts_script = importlib.util.module_from_spec(SPEC)
-SPEC.loader.exec_module(facts_script)
-
+facts_script = module_of("facts_script", TOP / "examples/facts.py")
 HEAD = 'Table "d" "DSDT" Length 67 Revision 2 Oem "TEST  " "EXAMPLE " 00000001 Creator "TEST" 00000001\n'
 SECONDS, MOST_MEMORY = 2, 1_000_000_000
 MANY, LONG = 6_000, 16_000
@@ -98,25 +94,16 @@ TEXTS = {
 LOOKED_FOR = re.compile("names|scopes|calls|brackets|segments|Raw|digits")
 
 
-def bounded() -> None:
-    resource.setrlimit(resource.RLIMIT_AS, (MOST_MEMORY, MOST_MEMORY))
-
-
-def run(script: str, *words: str, printed: int = subprocess.DEVNULL, **variables: str) -> tuple:
+def run(script: str, *words: object, printed: int = subprocess.DEVNULL, **variables: str) -> tuple:
     """The status, standard error and the seconds of processor time of a script."""
+
+    def bound() -> None:
+        resource.setrlimit(resource.RLIMIT_AS, (MOST_MEMORY, MOST_MEMORY))
+
     before = resource.getrusage(resource.RUSAGE_CHILDREN)
-    done = subprocess.run(
-        [sys.executable, TOP / "examples" / script, *words], stdout=printed, stderr=subprocess.PIPE, text=True,
-        env={**os.environ, **variables}, preexec_fn=bounded, check=False,
-    )
+    done = run_script(script, *words, stdout=printed, env={**os.environ, **variables}, preexec_fn=bound)
     after = resource.getrusage(resource.RUSAGE_CHILDREN)
     return done.returncode, done.stderr, after.ru_utime + after.ru_stime - before.ru_utime - before.ru_stime
-
-
-def is_word(script: str, status: int, said: str) -> bool:
-    """Whether a script took its text, or said in a line why not."""
-    name = script.partition(".")[0]
-    return status in (0, 3) or status in (1, 2) and said.startswith(f"{name}: ") and said.count("\n") == 1 and len(said) < 500
 
 
 def check_texts(checks: Tally, room: pathlib.Path) -> None:
@@ -130,10 +117,14 @@ def check_texts(checks: Tally, room: pathlib.Path) -> None:
         trials += [("calls.py", room), ("missing.py", room)] if LOOKED_FOR.search(what) else []
         for script, *words in trials:
             with open(room / "printed", "w+b") as printed:
-                status, said, seconds = run(script, *map(str, words), printed=printed.fileno(), ACPIDIS=str(fake))
+                status, said, seconds = run(script, *words, printed=printed.fileno(), ACPIDIS=str(fake))
                 made = {"facts.py": room / "facts", "asl.py": room / "asl"}.get(script)
                 spoken.update([script] if printed.tell() or made and made.exists() else [])
-            checks.is_so(f"{script}, {what}: status {status}, {said[:500]}", is_word(script, status, said))
+            # It took its text, or said in a line why not.
+            is_line = said.count("\n") == 1 and len(said) < 500
+            is_word = is_line and said.startswith(f"{script.removesuffix('.py')}: ")
+            is_good = status in (0, 3) or status in (1, 2) and is_word
+            checks.is_so(f"{script}, {what}: status {status}, {said[:500]}", is_good)
             checks.is_so(f"{script}, {what}: {seconds:.1f} seconds", seconds < SECONDS)
     for script in ("page.py", "facts.py", "asl.py"):
         checks.is_so(f"{script} tells of none of the texts", script in spoken)
@@ -150,17 +141,14 @@ def check_outputs(checks: Tally, room: pathlib.Path) -> None:
     }
     for what, said_there in lines.items():
         errors.write_text(said_there)
-        for script, more in (("page.py", []), ("facts.py", [str(room / "facts")])):
-            status, said, _ = run(script, "--errors", str(errors), str(text), *more)
+        for script, more in (("page.py", []), ("facts.py", [room / "facts"])):
+            status, said, _ = run(script, "--errors", errors, text, *more)
             is_named = "errors" in said or script == "facts.py"
             wanted = (0,) if not said_there and script == "facts.py" else (1,)
             checks.is_so(f"{script}, errors {what}: {status}, {said}", status in wanted and (status == 0 or is_named))
     for script, *words in (("page.py", text), ("facts.py", "--json", text)):
-        with open("/dev/full", "wb") as full:
-            words = [sys.executable, TOP / "examples" / script, *words]
-            done = subprocess.run(words, stdout=full, stderr=subprocess.PIPE, text=True, check=False)
-        said = f"{script.partition('.')[0]}: cannot write: No space left on device\n"
-        checks.is_so(f"{script}, a full disk: {done.stderr}", (done.returncode, done.stderr) == (2, said))
+        said = f"{script.removesuffix('.py')}: cannot write: No space left on device\n"
+        checks.is_same(f"{script}, a full disk", on_full_disk(script, *words), (2, said))
 
 
 def mutated(lines: list, dice: random.Random) -> str:

@@ -94,9 +94,6 @@ def units(text: str):
             bit = 8 * int(offset[1], 16) if offset else bit + int((unit and unit[2]) or (gap and gap[1]) or 0)
 
 
-# ---- resources
-
-
 class Macro(NamedTuple):
     """A macro: its word, the texts of its arguments, what stands in its braces, and what its keywords are in our words."""
 
@@ -163,9 +160,10 @@ def spaced(macro: Macro) -> tuple:
     if "ResourceConsumer" in macro.arguments:
         words.append("consumer")
     words = [word.replace("the other", "I/O" if macro.kind.endswith("Memory") else "memory") for word in words]
+    rank = lambda word: [word.startswith(head) for head in ORDER].index(True)
     to = "" if last == first else f" to 0x{last:0{digits}X}"
     return (
-        f"{macro.kind} 0x{first:0{digits}X}{to} +0x{length:X}", *in_order(words),
+        f"{macro.kind} 0x{first:0{digits}X}{to} +0x{length:X}", *sorted(words, key=rank),
         f"granularity 0x{gran:X}" if gran else "", f"translation 0x{translation:X}" if translation else "",
     )
 
@@ -174,10 +172,6 @@ ORDER = (
     "of kind", "consumer", "subtractive", "first not fixed", "last not fixed", "read-only", "not cacheable", "write-combining",
     "prefetchable", "non-ISA range", "ISA range", "reserved", "ACPI data", "NVS", "as", "sparse",
 )
-
-
-def in_order(words):
-    return sorted(words, key=lambda word: [word.startswith(head) for head in ORDER].index(True))
 
 
 def gpio(macro: Macro) -> tuple:
@@ -191,12 +185,7 @@ def gpio(macro: Macro) -> tuple:
     return macro.kind, macro.lines, *mode, *pull, *more
 
 
-def spi(macro: Macro) -> tuple:
-    order = ("3 wires", "select high", "second phase", "polarity high")
-    address, bits, speed = macro.numbers[:3]
-    return f"{macro.kind} 0x{address:04X} {speed} Hz {bits} bits", *sorted(macro.words, key=order.index)
-
-
+SPI_ORDER = ("3 wires", "select high", "second phase", "polarity high")
 TEXTS = {
     "IRQ": lambda it: ("IRQ", it.lines, *it.words),
     "IRQNoFlags": lambda it: ("IRQ", it.lines, "edge"),
@@ -211,5 +200,9 @@ TEXTS = {
     "I2cSerialBus": lambda it: (f"{it.kind} 0x{it.numbers[0]:04X} {it.numbers[1]} Hz", *it.words),
     "UartSerialBus": lambda it: (it.kind, f"{it.numbers[0]} baud"),
     "IO": io, "FixedIO": fixed, "Memory32Fixed": fixed, "Memory24": memory, "Memory32": memory, "Register": register,
-    "GpioInt": gpio, "GpioIo": gpio, "SpiSerialBus": spi,
+    "GpioInt": gpio, "GpioIo": gpio,
+    "SpiSerialBus": lambda it: (
+        f"{it.kind} 0x{it.numbers[0]:04X} {it.numbers[2]} Hz {it.numbers[1]} bits",
+        *sorted(it.words, key=SPI_ORDER.index),
+    ),
 }  # fmt: skip

@@ -12,17 +12,13 @@ TABLE = pathlib.Path(__file__).parent.parent / "crates/aml_code/src/table.rt"
 SLOTS, NO_ROW = 512, 255
 
 
-def slot(opcode):
-    """Where an opcode is looked up: those of one byte first, then those of 5B and a second byte."""
-    return opcode if opcode < 256 else 256 + opcode % 256
-
-
 def main():
     text = TABLE.read_text()
     opcodes = [int(digits, 16) for digits in re.findall(r"^    0x([0-9A-F]+) +\"", text, re.MULTILINE)]
     index = [NO_ROW] * SLOTS
     for place, opcode in enumerate(opcodes):
-        index[slot(opcode)] = place
+        # Those of one byte come first, then those of 5B and a second byte.
+        index[opcode if opcode < 256 else 256 + opcode % 256] = place
     numbers = textwrap.fill(", ".join(map(str, index)) + ",", 99, initial_indent="    ", subsequent_indent="    ")
     head, rest = text.split("static INDEX: [u8; 512] = [\n")
     tail = rest[rest.index("];"):]

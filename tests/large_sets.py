@@ -1,45 +1,40 @@
 #!/usr/bin/env python3
-"""Runs acpidis over sets that are too many or too large for worked examples, and compares text, error lines and status.
+"""Runs acpidis over sets that are too many or too large for worked examples, and compares text, error lines and
+status.
 
     python3 tests/large_sets.py [--stop] [PROGRAM]
 
-PROGRAM is out/acpidis if left out. With --stop the first cut that fails ends it. The independent reading of
-tests/oracle says what has to come of 19 tables cut at each byte, of all bodies of two bytes, of 20,000 methods in a
-mixed order with a call of each, and of the most files and bytes. It says it too of blocks outside methods and of a path
-that is declared again and again, with the option --any-run; and by 1, 4 and 64 workers of paths below what only may
-stand, of chains of Aliases, and of Scopes of what is no scope. For a long body, a name of sixteen million `^` and a
-million methods it would take too long: what has to come of these is written down here, after docs/listing.md,
-docs/limits.md and docs/names.md. The last line is 'N passed, N failed'.
+PROGRAM is out/acpidis if left out. With --stop the first run that fails ends it. What has to come of most sets the
+independent reading of tests/oracle says; of a long body, a name of sixteen million `^` and a million methods it is
+written down here, after docs/listing.md, docs/limits.md and docs/names.md. The last line is 'N passed, N failed'.
 """
 
 import concurrent.futures
+import contextlib
 import dataclasses
 import gc
-import io
 import itertools
 import os
 import pathlib
 import string
-import subprocess
 import sys
 import tempfile
-from collections.abc import Iterable
 from typing import NamedTuple
 
-from tally import PROGRAM, parser  # before the others, whose places it tells
-from dumps import HEADER_LENGTH, MOST_BYTES, MOST_DUMPS, Dump
+from tally import PROGRAM, Stopped, Tally, parser, written  # before the others, whose places it tells
+from compare import first_difference, run_program
+from dumps import HEADER_LENGTH, MOST_BYTES, MOST_DUMPS, dumps_of
 from loading import MOST_METHODS
 from made_code import MOST_SEGMENTS
-from made_aml import packed, table
-from running import DONE, RAW, REFUSED, Options, run, run_folder
+from made_aml import device, method, packed, scope, table
+from running import DONE, RAW, Options, Outcome, refused, run, run_folder
 
 LIST, CHECK = Options(), Options(check=True)
 LIST_RUNS, CHECK_RUNS = Options(any_run=True), Options(any_run=True, check=True)
 WORKERS = 1, 4, 64
-LONGEST_RUN = 120
-MOST_SHOWN = 200
+MOST_SHOWN = 400
 BLOCK = "dsdt.dat"
-# How many bytes a method has in front of its body.
+# How many bytes a large method has in front of its body.
 METHOD_LENGTH = 10
 # The text of a table that `table` makes, up to its length and behind it.
 BEGUN, ENDED = f'Table "{BLOCK}" "DSDT" Length ', ' Revision 2 Oem "TEST  " "EXAMPLE " 00000001 Creator "TEST" 00000001\n'
@@ -76,78 +71,27 @@ MIXED, OTHERS, STEP = 20_000, 500, 7_919
 CHAINED, STRIDE, INNER = 1_000, 50, 100
 
 
-class Ending(NamedTuple):
-    """The status of a run, and the lines of its text and of standard error."""
-
-    status: int | None
-    text: Iterable[str] = ()
-    errors: Iterable[str] = ()
-
-
 class Trial(NamedTuple):
     """A set, the options of a run over it, and how that has to end; the independent reading says it where nothing stands."""
 
     name: str
     files: dict
     options: Options = LIST
-    wanted: Ending | None = None
+    wanted: Outcome | None = None
 
 
-class Padded(NamedTuple):
-    """A file of these bytes, with zeros behind them up to its size."""
-
-    head: bytes
-    size: int
-
-
-# ---- runs
-
-
-def write_files(folder, files):
-    for name, content in files.items():
-        head, size = content if isinstance(content, Padded) else (content, len(content))
-        with open(os.path.join(folder, name), "wb") as file:
-            file.write(head)
-            file.truncate(size)
+def difference_of(program, trial):
+    """What a run differs in first from how it has to end, if it does; and its status."""
+    with tempfile.TemporaryDirectory() as room:
+        folder = written(pathlib.Path(room, "set"), trial.files)
+        got = run_program(program, folder, trial.options)
+        wanted = trial.wanted or run_folder(folder, trial.options)
+    return None if got == wanted else first_difference(got, wanted)[:MOST_SHOWN], got.status
 
 
-def ending_of(outcome):
-    return Ending(outcome.status, io.StringIO(outcome.out), io.StringIO(outcome.err))
-
-
-def first_difference(got, wanted):
-    """What two endings differ in first, of errors, status and text; None where they are the same."""
-    errors = itertools.zip_longest(got.errors, wanted.errors, fillvalue="the end")
-    statuses = [(f"status {got.status}", f"status {wanted.status}")]
-    text = itertools.zip_longest(got.text, wanted.text, fillvalue="the end")
-    pairs = itertools.chain(errors, statuses, text)
-    return next((f"{one[:MOST_SHOWN]!r}, not {other[:MOST_SHOWN]!r}" for one, other in pairs if one != other), None)
-
-
-def new_file():
-    return tempfile.TemporaryFile("w+", encoding="latin-1", newline="\n")
-
-
-def status_of(command, text, errors):
-    """The status of a run whose lines go to these files; None where it doesn't end."""
-    try:
-        status = subprocess.run(command, stdout=text, stderr=errors, timeout=LONGEST_RUN, check=False).returncode
-    except subprocess.TimeoutExpired:
-        status = None
-    text.seek(0)
-    errors.seek(0)
-    return status
-
-
-def tried(program, trial):
-    """The status of a run; None where it ends otherwise than it has to."""
-    with tempfile.TemporaryDirectory() as folder, new_file() as text, new_file() as errors:
-        write_files(folder, trial.files)
-        got = Ending(status_of([program, *trial.options.words(), folder], text, errors), text, errors)
-        difference = first_difference(got, trial.wanted or ending_of(run_folder(folder, trial.options)))
-    if difference:
-        print(f"FAILED {' '.join(['acpidis', *trial.options.words()])}, {trial.name}: {difference}", flush=True)
-    return None if difference else got.status
+def check(checks, trial, difference):
+    words = " ".join(["acpidis", *trial.options.words()])
+    checks.is_so(f"{words}, {trial.name}: {difference}", not difference)
 
 
 # ---- beside the independent reading
@@ -168,10 +112,10 @@ def cuts():
 def listed_and_checked(name, files, checks):
     """The listing of a set by the independent reading, and its check, whose lines are written down."""
     gc.disable()  # else half of the time goes into looking for what is no longer used, and there is little
-    outcome = run([Dump(file, None, data) for file, data in sorted(files.items())], LIST)
+    outcome = run(dumps_of(files), LIST)
     gc.enable()
-    yield Trial(name, files, LIST, ending_of(outcome))
-    yield Trial(name, files, CHECK, ending_of(outcome)._replace(text=checks))
+    yield Trial(name, files, LIST, outcome)
+    yield Trial(name, files, CHECK, outcome._replace(out="".join(checks)))
 
 
 def check_line(file, size, methods, raw):
@@ -183,22 +127,8 @@ def segment(number):
     return bytes(ord("A") + number // 26 ** place % 26 for place in (3, 2, 1, 0))
 
 
-def with_length(opcode, content):
-    """A package, its length spelled in four bytes."""
-    return packed(opcode, content, 4)
-
-
-def method(name, body, count=0):
-    """A method of so many arguments, mostly none."""
-    return with_length(b"\x14", name + bytes([count]) + body)
-
-
 def within_if(code):
-    return with_length(b"\xA0", b"\1" + code)
-
-
-def device(name, code=b""):
-    return with_length(b"\x5B\x82", name + code)
+    return packed(b"\xA0", b"\1" + code)
 
 
 def bodies_of_two_bytes():
@@ -213,8 +143,8 @@ def a_mixed_order():
     nothing declares each stands in a body of its own."""
     mixed = (place * STEP % MIXED for place in range(MIXED))
     code = b"".join(b"\x14\x06" + segment(number) + bytes([number % 8]) for number in mixed)
-    calls = method(b"MAIN", b"".join(segment(number) + b"\x60" * (number % 8) for number in range(MIXED)))
-    others = (method(b"Z%03d" % number, segment(MIXED + number)) for number in range(OTHERS))
+    calls = method(b"MAIN", 0, *(segment(number) + b"\x60" * (number % 8) for number in range(MIXED)))
+    others = (method(b"Z%03d" % number, 0, segment(MIXED + number)) for number in range(OTHERS))
     calls += b"".join(others)
     files = {**one(code), "ssdt1.dat": table(b"SSDT", calls)}
     checks = [check_line(BLOCK, len(code), MIXED, 0), check_line("ssdt1.dat", len(calls), OTHERS + 1, OTHERS)]
@@ -254,9 +184,9 @@ def by_workers(name, code):
     """The listing and the check of a set with code outside methods, each by some numbers of workers."""
     files = one(code)
     for options in LIST_RUNS, CHECK_RUNS:
-        outcome = run([Dump(file, None, data) for file, data in files.items()], options)
+        outcome = run(dumps_of(files), options)
         for workers in WORKERS:
-            yield Trial(name, files, dataclasses.replace(options, workers=workers), ending_of(outcome))
+            yield Trial(name, files, dataclasses.replace(options, workers=workers), outcome)
 
 
 def below_maybes():
@@ -264,11 +194,11 @@ def below_maybes():
     once more, with another method at the path; and with each Device inside the one before."""
     segments = [segment(number) for number in range(MOST_SEGMENTS)]
     *above, whole = [b"\\/%c" % count + b"".join(segments[:count]) for count in range(1, MOST_SEGMENTS + 1)]
-    maybes = b"".join(within_if(device(name)) for name in above) + method(whole, b"", 1)
-    sure, call = b"".join(map(device, above)) + method(whole, b"", 2), method(b"CALL", whole + b"\1\1")
+    maybes = b"".join(within_if(device(name)) for name in above) + method(whole, 1)
+    sure, call = b"".join(map(device, above)) + method(whole, 2), method(b"CALL", 0, whole + b"\1\1")
     yield from by_workers("a long path below maybes", maybes + call)
     yield from by_workers("a long path below what is sure at the end", maybes + sure + call)
-    nested = method(segments[-1], segments[-1] + b"\1", 1) + method(whole, b"", 2)
+    nested = method(segments[-1], 1, segments[-1] + b"\1") + method(whole, 2)
     for name in reversed(segments[1:-1]):
         nested = within_if(device(name, nested))
     yield from by_workers("a long path inside of maybes", device(segments[0], nested) + call)
@@ -277,12 +207,12 @@ def below_maybes():
 def chains_of_aliases():
     """Aliases of Aliases, the first of which may be that of one method or of another, may be there, or is; and what
     calls them."""
-    methods = method(b"MET1", b"", 1) + method(b"MET2", b"", 2)
+    methods = method(b"MET1", 1) + method(b"MET2", 2)
     first, second = (b"\x06" + name + segment(0) for name in (b"MET1", b"MET2"))
     starts = {"two methods": within_if(first) + within_if(second), "one that may be": within_if(first), "one": first}
     chain = b"".join(b"\x06" + segment(number) + segment(number + 1) for number in range(CHAINED))
     called = range(0, CHAINED, STRIDE)
-    calls = b"".join(method(b"Z%03d" % number, segment(CHAINED - number) + b"\1\1") for number in called)
+    calls = b"".join(method(b"Z%03d" % number, 0, segment(CHAINED - number) + b"\1\1") for number in called)
     for what, start in starts.items():
         yield from by_workers(f"Aliases of Aliases of {what}", methods + start + chain + calls)
 
@@ -291,18 +221,18 @@ def scopes_of_no_scope():
     """Scopes of a Mutex, a method, a Name, an Alias of a Device, what may be a Device, and a Device. In each are
     methods and a Device, and behind it others of their paths, and what calls them."""
     declared = {
-        b"MTX0": b"\x5B\x01MTX0\0", b"MTH0": method(b"MTH0", b""), b"NAM0": b"\x08NAM0\0", b"ALI0": b"\x06DEV0ALI0",
-        b"MAY0": within_if(device(b"MAY0")) + method(b"MAY0", b""), b"DEV0": b"",
+        b"MTX0": b"\x5B\x01MTX0\0", b"MTH0": method(b"MTH0", 0), b"NAM0": b"\x08NAM0\0", b"ALI0": b"\x06DEV0ALI0",
+        b"MAY0": within_if(device(b"MAY0")) + method(b"MAY0", 0), b"DEV0": b"",
     }
     names = [segment(number) for number in range(INNER)]
     code = device(b"DEV0")
     for opened, declaration in declared.items():
-        inside = b"".join(method(name, name + b"\1", 1) for name in names) + device(b"INNR", method(b"FOO_", b"", 1))
-        code += declaration + with_length(b"\x10", opened + inside)
+        inside = [*(method(name, 1, name + b"\1") for name in names), device(b"INNR", method(b"FOO_", 1))]
+        code += declaration + scope(opened, *inside)
         paths = [b"\\." + opened + name for name in names] + [b"\\/\3" + opened + b"INNRFOO_"]
-        code += b"".join(method(path, b"", 2) for path in paths)
+        code += b"".join(method(path, 2) for path in paths)
         callers = (b"\\." + opened + b"Z%03d" % number for number in range(len(paths)))
-        code += b"".join(method(caller, path + b"\1\1") for caller, path in zip(callers, paths))
+        code += b"".join(method(caller, 0, path + b"\1\1") for caller, path in zip(callers, paths))
     return by_workers("Scopes of what is no scope", code)
 
 
@@ -315,24 +245,20 @@ def the_most_files():
 
 def the_most_bytes():
     for size in MOST_BYTES, MOST_BYTES + 1:
-        yield Trial(f"{size} zeros", {BLOCK: Padded(b"", size)})
-        yield Trial(f"a table in {size} bytes", {BLOCK: Padded(table(b"DSDT", TABLES[0]), size)})
+        yield Trial(f"{size} zeros", {BLOCK: bytes(size)})
+        yield Trial(f"a table in {size} bytes", {BLOCK: table(b"DSDT", TABLES[0]).ljust(size, b"\0")})
 
 
 # ---- written down
 
 
-def refused(name, files, line):
-    return Trial(name, files, LIST, Ending(REFUSED, (), [f"acpidis: {line}\n"]))
-
-
 def of_one_method(name, body, lines):
     """The listing and the check of a table that has one method, whose body has these lines."""
-    code = method(b"MAIN", body)
+    code = method(b"MAIN", 0, body)
     head = [f"{BEGUN}{HEADER_LENGTH + len(code)}{ENDED}", "Namespace 1\n", "  \\MAIN Method 0\n"]
     block = [f'DefinitionBlock ("{BLOCK}") {{\n', "  Method (MAIN, 0, NotSerialized, 0) {\n", *lines, "  }\n", "}\n"]
-    yield Trial(name, one(code), LIST, Ending(DONE, head + block))
-    yield Trial(name, one(code), CHECK, Ending(DONE, [check_line(BLOCK, len(code), 1, 0)]))
+    yield Trial(name, one(code), LIST, Outcome(DONE, "".join(head + block), ""))
+    yield Trial(name, one(code), CHECK, Outcome(DONE, check_line(BLOCK, len(code), 1, 0), ""))
 
 
 def a_long_body():
@@ -344,7 +270,8 @@ def parent_prefixes():
     """A name of as many `^` as a table has room for leads above the root. As a target it is printed, and asked for nothing."""
     room = MOST_BYTES - HEADER_LENGTH
     name = b"^" * (room - 6) + b"BBBB"
-    yield refused("a declared name of ^", one(b"\x08" + name + b"\0"), f'table "{BLOCK}": AboveRoot')
+    above = refused(f'table "{BLOCK}": AboveRoot')
+    yield Trial("a declared name of ^", one(b"\x08" + name + b"\0"), LIST, above)
     name = b"^" * (room - METHOD_LENGTH - 5) + b"BBBB"
     yield from of_one_method("a target of ^", b"\x71" + name, [f"    RefOf ({name.decode()})\n"])
 
@@ -353,10 +280,6 @@ def ascending(count):
     """Segments in the order of their bytes."""
     others = string.digits + string.ascii_uppercase
     return itertools.islice(map("".join, itertools.product(string.ascii_uppercase, *[others] * 3)), count)
-
-
-def empty_methods(count):
-    return b"".join(b"\x14\x06%s\0" % name.encode() for name in ascending(count))
 
 
 def lines_of_empty_methods(count):
@@ -373,49 +296,35 @@ def lines_of_empty_methods(count):
 
 def the_most_methods():
     """The limit is met before the place of a name is looked at. A set has one limit, whichever tables have the methods."""
-    code = empty_methods(MOST_METHODS)
-    most, above, fault = one(code), b"\x14\x07^ABCD\0", "TooManyMethods"
-    yield Trial("the most methods", most, LIST, Ending(DONE, lines_of_empty_methods(MOST_METHODS)))
-    yield Trial("the most methods", most, CHECK, Ending(DONE, [check_line(BLOCK, len(code), MOST_METHODS, 0)]))
-    more = b"\x14\x06ZZZZ\0"
-    yield refused("a method too many", one(code + more), fault)
-    yield refused("a method too many in an SSDT", {**most, "ssdt1.dat": table(b"SSDT", more)}, fault)
-    yield refused("a method too many above the root", one(code + above), fault)
-    yield refused("the last method above the root", one(code[:-7] + above), f'table "{BLOCK}": AboveRoot')
+    code = b"".join(b"\x14\x06%s\0" % name.encode() for name in ascending(MOST_METHODS))
+    most, above, more = one(code), b"\x14\x07^ABCD\0", b"\x14\x06ZZZZ\0"
+    text, checked = "".join(lines_of_empty_methods(MOST_METHODS)), check_line(BLOCK, len(code), MOST_METHODS, 0)
+    yield Trial("the most methods", most, LIST, Outcome(DONE, text, ""))
+    yield Trial("the most methods", most, CHECK, Outcome(DONE, checked, ""))
+    for name, files, fault in [
+        ("a method too many", one(code + more), "TooManyMethods"),
+        ("a method too many in an SSDT", {**most, "ssdt1.dat": table(b"SSDT", more)}, "TooManyMethods"),
+        ("a method too many above the root", one(code + above), "TooManyMethods"),
+        ("the last method above the root", one(code[:-7] + above), f'table "{BLOCK}": AboveRoot'),
+    ]:
+        yield Trial(name, files, LIST, refused(fault))
 
 
-def large_trials():
-    yield from bodies_of_two_bytes()
-    yield from nested_blocks()
-    yield from a_path_declared_again()
-    yield from below_maybes()
-    yield from chains_of_aliases()
-    yield from scopes_of_no_scope()
-    yield from a_mixed_order()
-    yield from the_most_files()
-    yield from the_most_bytes()
-    yield from a_long_body()
-    yield from parent_prefixes()
-    yield from the_most_methods()
+LARGE = (
+    bodies_of_two_bytes, nested_blocks, a_path_declared_again, below_maybes, chains_of_aliases, scopes_of_no_scope,
+    a_mixed_order, the_most_files, the_most_bytes, a_long_body, parent_prefixes, the_most_methods,
+)  # fmt: skip
 
 
-def first_that_fails(program):
-    """Whether each run of the cuts fails, up to and with the first that does."""
-    for trial in cuts():
-        fails = tried(program, trial) is None
-        yield fails
-        if fails:
-            return
-
-
-def fails_of_cuts(program):
-    """Whether each run fails, and whether another number of them than it has to be is taken."""
+def check_cuts(checks, program):
+    """Each cut, by several processes, and how many of them are taken."""
+    trials, taken = list(cuts()), 0
     with concurrent.futures.ThreadPoolExecutor(len(os.sched_getaffinity(0))) as pool:
-        statuses = list(pool.map(lambda trial: tried(program, trial), cuts()))
-    taken = sum(status in (DONE, RAW) for status in statuses)
-    if taken != 2 * TAKEN_CUTS:
-        print(f"FAILED cuts: {taken} runs of them are taken, not {2 * TAKEN_CUTS}")
-    return [*(status is None for status in statuses), taken != 2 * TAKEN_CUTS]
+        ended = pool.map(difference_of, itertools.repeat(program), trials)
+        for trial, (difference, status) in zip(trials, ended):
+            check(checks, trial, difference)
+            taken += status in (DONE, RAW)
+    checks.is_same("cuts that are taken", taken, 2 * TAKEN_CUTS)
 
 
 def main():
@@ -423,15 +332,14 @@ def main():
     words.add_argument("--stop", action="store_true")
     words.add_argument("program", nargs="?", type=pathlib.Path, default=PROGRAM)
     asked = words.parse_args()
-    program = asked.program.resolve()
+    program, checks = asked.program.resolve(), Tally(stops=asked.stop)
     if not program.exists():
         sys.exit("the program isn't built: ./acpidis demo builds it")
-    fails = list(first_that_fails(program)) if asked.stop else []
-    if not any(fails):
-        fails = fails_of_cuts(program)
-        fails += [tried(program, trial) is None for trial in large_trials()]
-    print(f"{fails.count(False)} passed, {fails.count(True)} failed")
-    sys.exit(any(fails))
+    with contextlib.suppress(Stopped):
+        check_cuts(checks, program)
+        for trial in itertools.chain.from_iterable(make() for make in LARGE):
+            check(checks, trial, difference_of(program, trial)[0])
+    checks.end()
 
 
 if __name__ == "__main__":

@@ -12,11 +12,11 @@ word of the kit's library that the definitions name has to stand in its last tab
 page is compared with docs/meaning.md. The last line is 'N passed, N failed'.
 """
 
-import pathlib
 import re
 import sys
 
-TOP = pathlib.Path(__file__).resolve().parent.parent
+from tally import TOP, Tally
+
 PAGE = TOP / "docs/meaning.md"
 HEAD = TOP / "tests/meaning_words.md"
 # The parts of the page: a title, and the crates and names that it begins with. A part has what these are made of, but
@@ -74,11 +74,9 @@ class File:
             elif code[0].startswith("module _"):
                 self.add(block[block.index(code[0]) + 1 :], [code[0], ""], section)
             else:
-                self.groups += code != block or section != self.last_section()
+                last = self.definitions[-1].section if self.definitions else None
+                self.groups += code != block or section != last
                 self.definitions.append(Definition(self, section, block, around))
-
-    def last_section(self):
-        return self.definitions[-1].section if self.definitions else None
 
 
 class Definition:
@@ -374,16 +372,12 @@ def main():
     lines = zip(text.split("\n"), there.split("\n"))
     other = next((f"{number}: {here}" for number, (here, old) in enumerate(lines, 1) if here != old), "behind its last line")
     lost = [word for _, names in [*PARTS, ADDED, PRINTED] for word in sources.named(names)[1]]
-    checks = {
-        f"PARTS, ADDED, PRINTED: no specs have {lost}": bool(lost),
-        f"these stand behind what they are made of: {late_in(page.parts)}": bool(late_in(page.parts)),
-        f"tests/meaning_words.md and the definitions: {sorted(words_of_head(head) ^ page.kit())}": words_of_head(head) != page.kit(),
-        f"docs/meaning.md is made anew by --write; it differs in line {other}": there != text,
-    }
-    for message in [message for message, failed in checks.items() if failed]:
-        print(f"FAILED {message}")
-    print(f"{list(checks.values()).count(False)} passed, {list(checks.values()).count(True)} failed")
-    sys.exit(any(checks.values()))
+    late, strange, checks = late_in(page.parts), sorted(words_of_head(head) ^ page.kit()), Tally()
+    checks.is_so(f"PARTS, ADDED, PRINTED: no specs have {lost}", not lost)
+    checks.is_so(f"these stand behind what they are made of: {late}", not late)
+    checks.is_so(f"tests/meaning_words.md and the definitions: {strange}", not strange)
+    checks.is_so(f"docs/meaning.md is made anew by --write; it differs in line {other}", there == text)
+    checks.end()
 
 
 if __name__ == "__main__":

@@ -15,19 +15,16 @@ import pathlib
 import random
 import re
 import subprocess
-import sys
 import tempfile
 from collections import Counter
 
-from tally import TOP, Tally, parser  # before the others, whose places it tells
+from tally import Tally, first_difference, parser, run_script, written  # before the others, whose places it tells
 from acpidis_tools.page import lines as lines_module
 import pages
 from acpidis_tools.page import tree as tree_module
 from acpidis_tools.comparison import differences
 from acpidis_tools.decoding import Decoder
-from dumps import aml_of, order_of
 from acpidis_tools.errors import read_errors
-from folders import read_folder
 from acpidis_tools.listing import read_listing
 from made_aml import method, table
 from acpidis_tools.page.markup import page
@@ -35,9 +32,8 @@ from acpidis_tools.names import Names
 from page_html import Read, read_page
 from running import REFUSED, Options, Outcome, run_folder
 from acpidis_tools.page.sheet import Sheet
-from telling import HOSTILE_FILES, PAGES_FILES, Teller, samples, written
+from telling import HOSTILE_FILES, PAGES_FILES, samples, teller_of
 
-PAGE = TOP / "examples/page.py"
 ELEMENTS = set(
     "html head meta title style body nav header h1 h2 h3 p input div span small details summary a main section ul li "
     "table tr th td dfn b i q u em mark pre script button ins del".split()
@@ -46,12 +42,9 @@ ELEMENTS = set(
 lines_module.CHUNK, tree_module.MANY = 7, 3
 
 
-# ---- checks
-
-
 class Checks(Tally):
     def run(self, *words: str) -> subprocess.CompletedProcess:
-        return subprocess.run([sys.executable, PAGE, *words], capture_output=True, text=True, check=False)
+        return run_script("page.py", *words)
 
     def file(self, name: str, text: str) -> str:
         (self.room / name).write_text(text)
@@ -67,9 +60,7 @@ class Checks(Tally):
         """Checks the page of a set."""
         self.is_same(f"{what} is taken", outcome.status != REFUSED, True)
         read = read_page(self.page(outcome))
-        dumps = read_folder(folder)
-        teller = Teller([aml_of(dumps[index].data) for index in order_of(dumps, options.any_sum)], options)
-        self.is_same(f"the names of {what}", first_difference(read.told(), teller.told), None)
+        self.is_same(f"the names of {what}", first_difference(read.told(), teller_of(folder, options).told), None)
         self.is_same(f"the uses of {what}", read.uses, read.wanted_uses())
         self.check_frame(what, read, outcome)
         self.check_packed(what, read, outcome)
@@ -104,7 +95,8 @@ class Checks(Tally):
         self.is_same(f"attributes of {what}", odd, [])
         lines = outcome.out.split("\n")
         self.is_same(f"lines of {what}", [text for line, text in read.lines.items() if text != lines[line - 1]], [])
-        blocks = sum(line.startswith(("Definition", " ", "}")) for line in lines[first_block(lines):])
+        first = next((at for at, line in enumerate(lines) if line.startswith("DefinitionBlock ")), len(lines))
+        blocks = sum(line.startswith(("Definition", " ", "}")) for line in lines[first:])
         self.is_same(f"number of lines of {what}", len(read.lines), blocks)
         faults = [line.rpartition(": ")[2] for line in outcome.err.splitlines()]
         shown = [note[5:].partition(",")[0] for note in read.notes if note.startswith("raw: ")]
@@ -117,16 +109,6 @@ def marks_of(row: str) -> tuple[str | None, str]:
     words = (["maybe"] if is_maybe else []) + ([f"{times} times"] if times else [])
     return "maybe" if is_maybe else None, ", ".join(words)
 
-
-def first_block(lines: list[str]) -> int:
-    return next((at for at, line in enumerate(lines) if line.startswith("DefinitionBlock ")), len(lines))
-
-
-def first_difference(got: list, wanted: list) -> str | None:
-    for number, (one, other) in enumerate(zip(got, wanted)):
-        if one != other:
-            return f"name {number}: {one}, not {other}"
-    return None if len(got) == len(wanted) else f"{len(got)} names, not {len(wanted)}"
 
 def check_hostile(checks: Checks, read: Read) -> None:
     """The hostile set's files and hardware names. That its texts come out as text is checked by its lines."""

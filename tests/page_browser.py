@@ -12,6 +12,7 @@ and in 5 seconds. It is no part of ./test. The last line is 'N passed, N failed'
 import argparse
 import base64
 import fcntl
+import itertools
 import json
 import os
 import pathlib
@@ -21,10 +22,9 @@ import sys
 import tempfile
 import time
 
-from tally import TOP, Tally, parser  # before the others, whose places it tells
-from large_listing import listing
+from tally import TOP, Tally, parser, run_script, written  # before the others, whose places it tells
 from running import Options, run_folder
-from telling import HOSTILE_FILES, written
+from telling import HOSTILE_FILES
 
 WIDTH, HEIGHT = 1240, 800
 LONGEST_WAIT = 60
@@ -184,10 +184,6 @@ def seen(path: object) -> str:
     return IS_SEEN % json.dumps(path)
 
 
-def seen_if_there(path: object) -> str:
-    return f"!!byId({json.dumps(path)}) && {seen(path)}"
-
-
 def look(browser: Browser, url: str, picture: pathlib.Path, checks: Tally) -> None:
     seconds = min(browser.open(url) for _ in range(OPENINGS))
     print(f"opened in {seconds:.2f} s")
@@ -339,12 +335,13 @@ def look_narrow(browser: Browser, checks: Tally) -> None:
 
 def look_at_comparison(browser: Browser, url: str, checks: Tally) -> None:
     browser.open(url)
-    marked = browser.value("[...document.querySelectorAll('.block .differs, .block .changed')].length")
-    checks.is_so("lines that differ are marked", marked > 0)
-    rows = browser.value("document.querySelectorAll('#tables .differs').length")
-    checks.is_so("tables that differ are marked", rows > 0)
-    checks.is_so("what the other has is shown", browser.value("document.querySelectorAll('#comparison ins').length") > 0)
-    checks.is_so("and what this one has", browser.value("document.querySelectorAll('#comparison del').length") > 0)
+    for what, marks in (
+        ("lines that differ are marked", ".block .differs, .block .changed"),
+        ("tables that differ are marked", "#tables .differs"),
+        ("what the other has is shown", "#comparison ins"),
+        ("and what this one has", "#comparison del"),
+    ):
+        checks.is_so(what, browser.value(f"document.querySelectorAll({json.dumps(marks)}).length") > 0)
     check_log(browser, checks)
 
 
@@ -358,7 +355,7 @@ def look_at_large(browser: Browser, most: float, file: pathlib.Path, checks: Tal
     browser.value(f"find.value = {json.dumps(path.lower())}; showFound()")
     checks.is_so("a path is found first", browser.until(f"{FOUND} === {json.dumps(path)}"))
     browser.value("found.querySelector('a').click()")
-    checks.is_so("it is seen", browser.until(seen_if_there(path)))
+    checks.is_so("it is seen", browser.until(f"!!byId({json.dumps(path)}) && {seen(path)}"))
     checks.is_so("the bar tells it", browser.until(f"here.textContent === {json.dumps(path)}"))
     checks.is_so("the tree shows it", browser.until("(tree.querySelector('[aria-current]') || {}).textContent === 'RDWR'"))
     note = f"byId({json.dumps(path)}).parentNode.querySelector('.note')"
@@ -370,6 +367,31 @@ def look_at_large(browser: Browser, most: float, file: pathlib.Path, checks: Tal
     check_log(browser, checks)
 
 
+# The lines of a device of a large listing: NAME is its name, @ a digit, and ######## a number.
+DEVICE = (TOP / "tests/large_device.text").read_text()
+KINDS = {
+    "CTRL": "Field", "RDWR": "Method 2", "REGS": "Region", "STAT": "Field", "VDID": "Field", "_ADR": "Name", "_CRS": "Name",
+    "_HID": "Name", "_PS0": "Method 0", "_PS3": "Method 0", "_STA": "Method 0", "_UID": "Name",
+}
+HEAD = 'Table "dsdt.dat" "DSDT" Length {size} Revision 2 Oem "TEST  " "LARGE   " 00000001 Creator "TEST" 00000001\n'
+DIGITS = "ABCDEFGHIJKLMNOPQRSTUVWXYZ_"
+
+
+def listing(size: int) -> str:
+    """A listing of about so many bytes, like that of a large firmware."""
+    one = len(DEVICE) + sum(len(f"  \\_SB_.PCI0.DAAA.{it} {kind}\n") for it, kind in KINDS.items())
+    names = map("".join, itertools.product("DEFGHIJK", *[DIGITS] * 3))
+    rows, blocks = ["  \\_SB_.PCI0 Device\n"], []
+    for number, name in enumerate(itertools.islice(names, max(1, size // one))):
+        rows.append(f"  \\_SB_.PCI0.{name} Device\n")
+        rows += [f"  \\_SB_.PCI0.{name}.{it} {kind}\n" for it, kind in KINDS.items()]
+        device = DEVICE.replace("########", f"{number:08X}").replace("@", str(number % 10))
+        blocks.append(device.replace("NAME", name))
+    text = f"Namespace {len(rows)}\n" + "".join(rows)
+    text += 'DefinitionBlock ("dsdt.dat") {\n  Scope (\\_SB_) {\n    Device (PCI0) {\n' + "".join(blocks) + "    }\n  }\n}\n"
+    return HEAD.format(size=size) + text
+
+
 # A listing with other numbers, in a table too
 OTHERS = {"0x080AD041": "0x030AD041", "LEqual": "LGreater", "QQQQ": "QQQR", 'Revision 2 Oem "TEST  "': 'Revision 3 Oem "TEST  "'}
 LARGE = {4: 2, 16: 5}
@@ -379,8 +401,7 @@ def page_of(room: pathlib.Path, name: str, text: str, *words: object) -> pathlib
     """The page of a listing."""
     (room / name).write_text(text)
     page = room / f"{name}.html"
-    with open(page, "w") as made:
-        subprocess.run([sys.executable, TOP / "examples/page.py", *words, room / name], stdout=made, check=True)
+    page.write_text(run_script("page.py", *words, room / name, stderr=None, check=True).stdout)
     return page
 
 

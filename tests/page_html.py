@@ -1,7 +1,7 @@
 """Reads a page of examples/page.py by Python's HTML parser, for tests/page.py."""
 
 import re
-from dataclasses import dataclass, field
+from collections.abc import Iterator
 from html.parser import HTMLParser
 
 from loading import path_text
@@ -9,95 +9,83 @@ from acpidis_tools.page.packing import BETWEEN, unpacked
 
 Path = tuple[str, ...]
 Told = tuple[str, str, object, tuple]
+VOID = ("meta", "input")
 
 
-# ---- what the page says
+class Element:
+    """An element of a page, with the elements and texts that are inside it."""
+
+    def __init__(self, tag: str, found: dict):
+        self.tag, self.found, self.inside = tag, found, []
+
+    def all(self, *tags: str) -> Iterator["Element"]:
+        """The elements in it in the order of the text, or those with one of these tags."""
+        for it in self.inside:
+            if isinstance(it, Element):
+                if not tags or it.tag in tags:
+                    yield it
+                yield from it.all(*tags)
+
+    def text(self) -> str:
+        """Its text, without that of notes and of what is said of numbers."""
+        left_out = lambda it: isinstance(it, Element) and (it.is_note() or it.tag == "small")
+        shown = [it for it in self.inside if not left_out(it)]
+        return "".join(it if isinstance(it, str) else it.text() for it in shown)
+
+    def is_note(self) -> bool:
+        return self.found.get("class") == "note"
 
 
-@dataclass
-class Read(HTMLParser):
-    """What a page has: its elements, anchors and links, and of the definition blocks the lines, the names with what
-    each is, and the lines in which a path is used."""
+class Tree(HTMLParser):
+    """Makes the elements of a page."""
 
-    elements: set = field(default_factory=set)
-    attributes: list = field(default_factory=list)
-    anchors: list = field(default_factory=list)
-    names: list = field(default_factory=list)
-    lines: dict = field(default_factory=dict)
-    notes: list = field(default_factory=list)
-    rows: dict = field(default_factory=dict)
-    uses: set = field(default_factory=set)
-    cells: list = field(default_factory=list)
-    says: list = field(default_factory=list)
-
-    def __post_init__(self) -> None:
+    def __init__(self) -> None:
         super().__init__()
-        self.section, self.line, self.name, self.used, self.is_listed, self.note = "", 0, None, "", False, False
-        self.row, self.is_named, self.is_small, self.is_said = None, False, False, False
+        self.open = [Element("", {})]
 
     def handle_starttag(self, tag: str, attrs: list) -> None:
-        found = dict(attrs)
-        self.elements.add(tag)
-        self.attributes += attrs
-        self.anchors += [found["id"]] if "id" in found else []
-        if tag == "section":
-            self.section = found.get("class") or found["id"]
-        elif not self.section and tag in ("p", "summary"):
-            self.row, self.is_named = [found.get("class"), ""], False
-        elif not self.section and tag == "a" and self.row and not self.is_named:
-            self.rows[found["href"][1:]], self.is_named = self.row, True
-        elif not self.section and tag == "small":
-            self.is_small = "class" not in found
-        elif self.section == "block":
-            self.start_in_block(tag, found)
-        elif self.section == "uses" and tag == "div":
-            self.used, self.is_listed = found["id"], False
-        elif self.section == "uses" and tag == "ul":
-            self.is_listed = True
-        elif self.section == "uses" and tag == "a" and self.is_listed:
-            self.uses.add((self.used, found["href"][1:]))
-        elif self.section == "tables" and tag == "td":
-            self.cells.append("")
-
-    def start_in_block(self, tag: str, found: dict) -> None:
-        if tag in ("p", "summary"):
-            self.line = int(found["id"])
-            self.lines[self.line] = ""
-        elif found.get("class") == "note":
-            self.note = True
-            self.notes.append("")
-        elif tag in ("a", "dfn", "u"):
-            self.name = [tag, found, ""]
-        elif tag == "small":
-            self.is_said = True
-            self.says.append("")
+        self.open[-1].inside.append(Element(tag, dict(attrs)))
+        if tag not in VOID:
+            self.open.append(self.open[-1].inside[-1])
 
     def handle_endtag(self, tag: str) -> None:
-        if tag in ("p", "summary", "section"):
-            self.line, self.row = 0, None
-        if tag == "small":
-            self.is_small = self.is_said = False
-        if tag == "section":
-            self.section = ""
-        if self.note and tag in ("a", "em"):
-            self.note = False
-        elif self.name and tag == self.name[0]:
-            self.names.append((*self.name, self.line))
-            self.name = None
+        while self.open.pop().tag != tag:
+            pass
 
     def handle_data(self, data: str) -> None:
-        if self.note:
-            self.notes[-1] += data
-        elif self.is_said:
-            self.says[-1] += data
-        elif self.line and self.section == "block":
-            self.lines[self.line] += data
-            if self.name:
-                self.name[2] += data
-        elif self.section == "tables" and self.cells:
-            self.cells[-1] += data
-        elif self.row and self.is_small and not data.replace(",", "").isdigit():
-            self.row[1] += data
+        self.open[-1].inside.append(data)
+
+
+class Read:
+    """What a page has: its elements, anchors and links, the rows of its tree, and of the definition blocks the
+    lines, the names with what each is, and the lines in which a path is used."""
+
+    def __init__(self, page: Element):
+        parts = list(page.all())
+        self.elements = {it.tag for it in parts}
+        self.attributes = [pair for it in parts for pair in it.found.items()]
+        self.anchors = [it.found["id"] for it in parts if "id" in it.found]
+        self.lines, self.names, self.notes, self.says = {}, [], [], []
+        (tree,) = (it for it in parts if it.tag == "nav")
+        self.rows = dict(map(read_row, (row for row in tree.all("p", "summary") if any(row.all("a")))))
+        sections = [(it.found.get("class") or it.found["id"], it) for it in parts if it.tag == "section"]
+        for line in (line for kind, it in sections if kind == "block" for line in it.all("p", "summary")):
+            self.read_line(line)
+        entries = [entry for kind, it in sections if kind == "uses" for entry in it.all("div")]
+        links = [(entry, link) for entry in entries for ul in entry.all("ul") for link in ul.all("a")]
+        self.uses = {(entry.found["id"], link.found["href"][1:]) for entry, link in links}
+        self.cells = [cell.text() for kind, it in sections if kind == "tables" for cell in it.all("td")]
+
+    def read_line(self, line: Element) -> None:
+        number = int(line.found["id"])
+        self.lines[number] = line.text()
+        for it in line.all():
+            if it.is_note():
+                self.notes.append(it.text())
+            elif it.tag in ("a", "dfn", "u"):
+                self.names.append((it.tag, it.found, it.text(), number))
+            elif it.tag == "small":
+                self.says.append(it.text())
 
     def told(self) -> list[Told]:
         """The names of the blocks as the independent reading tells them."""
@@ -128,6 +116,13 @@ class Read(HTMLParser):
         return {(entries[anchor], line) for anchor, line in aims if anchor in entries}
 
 
+def read_row(row: Element) -> tuple[str, list]:
+    """The path of a row of the tree, with its class and its small words."""
+    words = (small.text() for small in row.all("small") if "class" not in small.found)
+    shown = "".join(word for word in words if not word.replace(",", "").isdigit())
+    return next(row.all("a")).found["href"][1:], [row.found.get("class"), shown]
+
+
 def others_in(tag: str, found: dict) -> tuple:
     """The paths to which a name leads in other runs."""
     title = found.get("title", "") if tag == "a" else ""
@@ -154,7 +149,8 @@ def expanded(html: str) -> str:
 
 
 def read_page(html: str) -> Read:
-    read = Read()
-    read.feed(expanded(html))
-    read.close()
-    return read
+    tree = Tree()
+    page = tree.open[0]
+    tree.feed(expanded(html))
+    tree.close()
+    return Read(page)

@@ -1,18 +1,17 @@
 #!/usr/bin/env python3
-"""Runs the commands of the pages for users, each as its page prints it, and compares what comes with what stands there.
+"""Runs the commands of the pages for users, each as its page prints it, and compares what comes with what stands
+there.
 
     python3 tests/pages.py [--no-scripts]
 
 A block that begins with ```console has commands behind `$ `, more lines of theirs behind `> `, and below what they
 print. They run in a folder with `mine`, the set of docs/listing.md, whose text is the first block of that page, with
 `boards`, the sets of tests/board.py, and with `examples`; `./acpidis` is the launcher. Then they run once more as the
-commands of an installed program, `acpidis-page` for `examples/page.py`. What README quotes from a source has to stand
-there. README has at most 2,000 words, and docs no more pages and words than they may. Each link leads to a file, and to
-a heading of it. Each contract and definition that docs/work/proofs.md names stands in its crate, each clause that a
-crate's README names too, each wrong body of a file wrong-bodies.goals, and each name of the sources' kind that a page
-marks as code in some source. Then the manual page is looked through by mandoc and groff, each where it is installed,
-and its options and README's are compared with the program's, its words and docs/refusals.md's with the sources'. Last,
-the scripts that the pages speak of are tried, but with --no-scripts. The last line is 'N passed, N failed'.
+commands of an installed program, `acpidis-page` for `examples/page.py`. README and docs have no more pages and words
+than they may. What pages quote, link to or name stands there: sources, headings, contracts, clauses, wrong bodies.
+The manual page is looked through by mandoc and groff, each where it is installed; options and words are compared with
+the program's and the sources'. Last, the scripts that the pages speak of are tried, but with --no-scripts. The last
+line is 'N passed, N failed'.
 """
 
 import itertools
@@ -24,9 +23,9 @@ import subprocess
 import sys
 import tempfile
 
-from tally import TOP, Tally  # before the others, whose places it tells
+from tally import TOP, Tally, written  # before the others, whose places it tells
 from board import VERSIONS
-from made_aml import table
+from made_aml import tables
 
 LISTING = "docs/listing.md"
 PAGES = ["listing", "tables", "refusals", "any_run", "changing", "many", "facts"]
@@ -41,7 +40,7 @@ MADE_UP = {"draw_copy1", "Lts"}
 SCRIPTS = ["tests/meaning.py", "tests/survey.sh", "tests/install.sh", "tests/examples.py", "tests/library.sh"]
 DSDT = b"\x08BAR_\x0A\x05" + b"\x14\x0BFOO_\x02\xA4\x72\x68\x69\x00" + b"\x14\x0BCALL\x00\xA4ZZZZ"
 SSDT = b"\x10\x17\\_SB_\x5B\x82\x0FDEV0\x14\x09_STA\x08\xA4\x0A\x0F" + b"\x06FOO_ALIA"
-SETS = {"mine": {"dsdt.dat": table(b"DSDT", DSDT), "ssdt1.dat": table(b"SSDT", SSDT)}}
+SETS = {"mine": tables(DSDT, SSDT)}
 SETS |= {f"boards/{version}": files for version, files in VERSIONS.items()}
 
 # In place of ssh: each host has the tables of `mine`, but for one that doesn't answer.
@@ -55,14 +54,9 @@ exec tar -C mine -cf - .
 """
 
 
-# ---- commands
-
-
 def make_room(room, is_installed):
     for place, files in SETS.items():
-        (room / place).mkdir(parents=True)
-        for name, data in files.items():
-            (room / place / name).write_bytes(data)
+        written(room / place, files)
     (room / "bin").mkdir()
     commands = {"bin/ssh": SSH}
     if is_installed:
@@ -76,10 +70,9 @@ def make_room(room, is_installed):
         (room / name).chmod(0o755)
 
 
-def printed_by(command, room):
-    environment = {**os.environ, "PATH": f"{room}/bin:{os.environ['PATH']}"}
-    how = {"stdout": subprocess.PIPE, "stderr": subprocess.STDOUT, "check": False}
-    return subprocess.run(["sh", "-c", command], cwd=room, env=environment, **how).stdout.decode()
+def printed_by(words, **more):
+    how = {"stdout": subprocess.PIPE, "stderr": subprocess.STDOUT, "text": True, "check": False}
+    return subprocess.run(words, **{**how, **more}).stdout
 
 
 def blocks_of(page, kind):
@@ -96,24 +89,19 @@ def commands_of(page):
             yield command + re.sub(r"^> ", "", more, flags=re.MULTILINE), wanted
 
 
-def as_installed(command):
-    """A command of a page as it is where the program is installed."""
-    return re.sub(r"(?:python3 )?\bexamples/(\w+)\.(?:py|sh)\b", r"acpidis-\1", command).replace("./acpidis", "acpidis")
-
-
 def check_commands(checks, page, is_installed):
     """Each command of a page, in its order."""
     commands = list(commands_of(page))
     checks.is_so(f"{page}: it has no command", commands)
     with tempfile.TemporaryDirectory() as room:
         make_room(pathlib.Path(room), is_installed)
+        environment = {**os.environ, "PATH": f"{room}/bin:{os.environ['PATH']}"}
         for command, wanted in commands:
-            command = as_installed(command) if is_installed else command
-            printed = printed_by(command, room)
+            if is_installed:
+                command = re.sub(r"(?:python3 )?\bexamples/(\w+)\.(?:py|sh)\b", r"acpidis-\1", command)
+                command = command.replace("./acpidis", "acpidis")
+            printed = printed_by(["sh", "-c", command], cwd=room, env=environment)
             checks.is_so(f"{page}: {command}\nprinted\n{printed}not\n{wanted}", printed == wanted)
-
-
-# ---- what stands on pages
 
 
 def check_readme(checks):
@@ -223,8 +211,7 @@ def check_goals(checks):
 def check_manual(checks):
     for lint in LINTS:
         if shutil.which(lint[0]):
-            words = [*lint, TOP / MANUAL]
-            said = subprocess.run(words, stdout=subprocess.PIPE, stderr=subprocess.STDOUT, check=False).stdout.decode()
+            said = printed_by([*lint, TOP / MANUAL])
             checks.is_so(f"{MANUAL}: {lint[0]}\n{said}", not said)
 
 
@@ -239,12 +226,6 @@ def words_of_program():
     return {word for message in messages for word in re.findall(r"^[A-Z][A-Za-z]+", message)}
 
 
-def words_of_refusals():
-    """The words of the first column of the tables."""
-    cells = re.findall(r"^\| `([^`]*)`", (TOP / REFUSALS).read_text(), re.MULTILINE)
-    return {word for cell in cells for word in re.findall(r"[A-Z][A-Za-z]+[a-z]", cell)}
-
-
 def section(manual, name):
     return "".join(re.findall(rf"^\.SH {name}\n(.*?)^\.SH", manual, re.MULTILINE | re.DOTALL)[:1])
 
@@ -254,13 +235,13 @@ def check_words(checks):
     readme = (TOP / README).read_text().partition("\n## Options")[2].partition("\n## ")[0]
     manual = (TOP / MANUAL).read_text().replace("\\-", "-")
     headings = "\n".join(re.findall(r"^(?:\.BR? |acpidis: )(.*)$", section(manual, "DIAGNOSTICS"), re.MULTILINE))
-    run = subprocess.run([TOP / "acpidis", "--any-sum", "--help"], stdout=subprocess.PIPE, check=False)
-    options, words = options_in(run.stdout.decode()), words_of_program()
+    options, words = options_in(printed_by([TOP / "acpidis", "--any-sum", "--help"])), words_of_program()
+    cells = re.findall(r"^\| `([^`]*)`", (TOP / REFUSALS).read_text(), re.MULTILINE)
     for name, got, wanted in [
         ("options of the manual", options_in(section(manual, "OPTIONS")), options),
         ("options of README", options_in(readme) | {"--help", "--version"}, options),
         ("words of the manual", set(re.findall(r"\b[A-Z][a-z]+[A-Za-z]*\b", headings)), words),
-        ("words of refusals.md", words_of_refusals(), words),
+        ("words of refusals.md", set(re.findall(r"[A-Z][A-Za-z]+[a-z]", "\n".join(cells))), words),
     ]:
         checks.is_so(f"{name}: {sorted(got ^ wanted)}", got == wanted)
 
@@ -268,8 +249,7 @@ def check_words(checks):
 def check_scripts(checks):
     """Each check of a script, by its last line."""
     for script in SCRIPTS:
-        run = subprocess.run([TOP / script], stdout=subprocess.PIPE, check=False)
-        *shown, last = run.stdout.decode().splitlines()
+        *shown, last = printed_by([TOP / script], stderr=None).splitlines()
         print("".join(f"{line}\n" for line in shown), end="")
         passed, failed = map(int, re.fullmatch(r"(\d+) passed, (\d+) failed", last).groups())
         checks.passed += passed

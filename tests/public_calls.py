@@ -12,17 +12,11 @@ looked at.
 With --list the public functions are printed, each with the parts that call it. The last line is 'N passed, N failed'.
 """
 
-import argparse
 import collections
-import pathlib
 import re
-import sys
 
-sys.dont_write_bytecode = True
-TOP = pathlib.Path(__file__).resolve().parent.parent
-sys.path.insert(0, str(TOP / "tests"))
-
-from wrong_bodies import BLOCK, FUNCTION, functions_of, sources_in  # noqa: E402
+from tally import TOP, Tally, parser  # before the others, whose places it tells
+from wrong_bodies import BLOCK, FUNCTION, functions_of, sources_in
 
 TABLE = TOP / "tests/public_calls.txt"
 # The crates whose functions begin the calls of a part. The example call_list is no part of ./test.
@@ -124,7 +118,7 @@ def table():
 
 
 def main():
-    words = argparse.ArgumentParser(description=__doc__, formatter_class=argparse.RawDescriptionHelpFormatter)
+    words = parser(__doc__)
     words.add_argument("--list", action="store_true")
     below = crates_below()
     functions = [it for crate in below for it in functions_in(crate)]
@@ -133,24 +127,16 @@ def main():
     if words.parse_args().list:
         for name in public:
             print(name, *(part for part in PARTS if name in called[part]))
-        return 0
-    told = table()
-    fails = []
+        return
+    told, checks = table(), Tally()
     for name in public:
-        parts = [part for part, names in told.items() if name in names]
-        fails.append(not parts)
-        if not parts:
-            print(f"FAILED {name}: no part of ./test is named that compares what it answers")
-    for part, names in told.items():
-        for name in names:
-            wrong = "there is no such public function" if name not in public else f"the part '{part}' doesn't call it"
-            holds = name in public and name in called.get(part, ())
-            fails.append(not holds)
-            if not holds:
-                print(f"FAILED {name}: {wrong}")
-    print(f"{fails.count(False)} passed, {fails.count(True)} failed")
-    return int(any(fails) or not fails)
+        is_told = any(name in names for names in told.values())
+        checks.is_so(f"{name}: no part of ./test is named that compares what it answers", is_told)
+    for part, name in [(part, name) for part, names in told.items() for name in names]:
+        wrong = "there is no such public function" if name not in public else f"the part '{part}' doesn't call it"
+        checks.is_so(f"{name}: {wrong}", name in public and name in called.get(part, ()))
+    checks.end()
 
 
 if __name__ == "__main__":
-    sys.exit(main())
+    main()

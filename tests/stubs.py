@@ -3,13 +3,12 @@
 
     python3 tests/stubs.py [WORD..]
 
-A script that takes any refusal for an answer, or compares nothing with nothing, passes whatever it is given. So each runs here
-in a copy of the repository in which what it tests is a stub: a program that refuses everything, one that prints nothing, and
-one that prints the same text always, two of them with status 0. All of them know their version and the demo, so that no script
-ends before it begins. Each script has to end with another status than 0, and where it prints a last line of counts, some have
-failed. The other trials are a machine without a C compiler, an empty table, empty pages, a wrong independent reading, and a
-`rt` that proves nothing. With words only the trials with one of them in their names are made. The last line is
-'N passed, N failed'.
+Each runs in a copy of the repository in which what it tests is a stub: a program that refuses everything, one that
+prints nothing, and one that prints the same text always, all of which know their version and the demo, so that no
+script ends before it begins. Each script has to end with another status than 0, and where it prints a last line of
+counts, some have failed. The other trials are a machine without a C compiler, empty files, a wrong independent
+reading, and a `rt` that proves nothing. With words only the trials with one of them in their names are made. The last
+line is 'N passed, N failed'.
 """
 
 import concurrent.futures
@@ -22,7 +21,8 @@ import sys
 import tempfile
 from typing import NamedTuple
 
-TOP = pathlib.Path(__file__).resolve().parent.parent
+from tally import TOP, Tally
+
 LEFT_OUT = shutil.ignore_patterns(".git", "out", "__pycache__", "must-fail", "proofs", "wrong-bodies.edits")
 # The program, and its copy by which the scripts run it
 PROGRAM, PLACED = "crates/acpidis_program/out/acpidis_program", "out/acpidis"
@@ -44,6 +44,7 @@ POOL_STUBS = {
 # A reading by which a declaration that only may stand hides those in the scopes around it
 RUNS = "tests/oracle/any_run.py"
 SURE, ALONE = (f"            if {it}:\n                return met\n" for it in ("self.is_sure(path)", "met"))
+READINGS = {"a maybe that decides alone": (SURE, ALONE), "an open Alias that counts": ("if is_open:", "if False:")}
 # The rules by which a run passes over terms and aims Aliases, each with a reading that takes no heed of it
 RULES = {
     "a parent that isn't there": ("path is not None and self.is_sure(path[:-1])", "True"),
@@ -59,6 +60,16 @@ EMPTY_PAGES = {
     "docs/acpidis.1": "FAILED words of the manual",
 }
 COMPILERS = {"cc", "gcc", "clang", "c89", "c99"}
+# Tests, what each is given, the file that has it, and its text
+EMPTIED = (
+    ("tests/package.sh", "a ./package that makes nothing", "package", "#!/bin/sh\n"),
+    ("tests/facts.py", "a script that writes nothing", "examples/facts.py", ""),
+    ("tests/decoding.py", "nothing decoded", "examples/acpidis_tools/decoding.py", ""),
+    ("tests/hostile.py", "a script that prints nothing", "examples/page.py", ""),
+    ("tests/meaning.py", "an empty page", "docs/meaning.md", ""),
+    ("tests/public_calls.py", "an empty table", "tests/public_calls.txt", ""),
+    ("tests/library.sh", "an empty page", "docs/library.md", ""),
+)
 
 
 class Trial(NamedTuple):
@@ -104,23 +115,17 @@ def trials(room):
         yield Trial(f"tests/page.py, a script that {what}", ["tests/page.py", "--sets", "1"], page)
     for what in ("refuses", "prints nothing"):
         yield Trial(f"tests/costs.py, a program that {what}", ["tests/costs.py"], placed(STUBS[what]))
-    yield Trial("tests/package.sh, a ./package that makes nothing", ["tests/package.sh"], {"package": "#!/bin/sh\n"})
-    yield Trial("tests/facts.py, a script that writes nothing", ["tests/facts.py"], {"examples/facts.py": ""})
-    yield Trial("tests/decoding.py, nothing decoded", ["tests/decoding.py"], {"examples/acpidis_tools/decoding.py": ""})
-    yield Trial("tests/hostile.py, a script that prints nothing", ["tests/hostile.py"], {"examples/page.py": ""})
-    yield Trial("tests/meaning.py, an empty page", ["tests/meaning.py"], {"docs/meaning.md": ""})
+    for script, what, file, text in EMPTIED:
+        yield Trial(f"{script}, {what}", [script], {file: text})
     yield Trial("tests/refusals.sh, no C compiler", ["tests/refusals.sh", "program"], placed(REFUSES), without_compilers(room))
     yield Trial("tests/worked_runs.py, no examples", ["tests/worked_runs.py"], {"tests/worked_runs.txt": "", **placed(EMPTY)})
     runs = (TOP / RUNS).read_text()
-    readings = {"a maybe that decides alone": (SURE, ALONE), "an open Alias that counts": ("if is_open:", "if False:")}
-    for what, (rule, other) in readings.items():
+    for what, (rule, other) in READINGS.items():
         wrong = {RUNS: runs.replace(rule, other)}
         yield Trial(f"tests/oracle/runs_agree.py, {what}", ["tests/oracle/runs_agree.py"], wrong)
     for what, (rule, without) in RULES.items():
         words, wrong = ["tests/oracle/terms_agree.py", "--read"], {RUNS: runs.replace(rule, without)}
         yield Trial(f"tests/oracle/terms_agree.py, a reading without heed of {what}", words, wrong)
-    yield Trial("tests/public_calls.py, an empty table", ["tests/public_calls.py"], {"tests/public_calls.txt": ""})
-    yield Trial("tests/library.sh, an empty page", ["tests/library.sh"], {"docs/library.md": ""})
     pages = {**dict.fromkeys(EMPTY_PAGES, ""), **placed(ONE_TEXT)}
     said = tuple(f"{page}: {told}" if told.startswith("it ") else told for page, told in EMPTY_PAGES.items())
     yield Trial("tests/pages.py, empty pages", ["tests/pages.py", "--no-scripts"], pages, said=said)
@@ -145,12 +150,10 @@ def without_compilers(room):
     """A PATH of one folder, with all commands but C compilers."""
     folder = room / "commands"
     folder.mkdir()
-    for place in reversed(os.environ["PATH"].split(":")):
-        for file in pathlib.Path(place).glob("*"):
-            link = folder / file.name
-            if file.name not in COMPILERS and not re.search(r"(^|-)(gcc|clang|cc)(-\d+)?$", file.name):
-                link.unlink(missing_ok=True)
-                link.symlink_to(file)
+    files = {it.name: it for place in reversed(os.environ["PATH"].split(":")) for it in pathlib.Path(place).glob("*")}
+    for name, file in files.items():
+        if name not in COMPILERS and not re.search(r"(^|-)(gcc|clang|cc)(-\d+)?$", name):
+            (folder / name).symlink_to(file)
     return str(folder)
 
 
@@ -167,35 +170,33 @@ def copy_with(files, folder):
 def fault_of(trial, folder):
     """Why a trial isn't right, or nothing: the script passes, or doesn't say what failed."""
     words = [sys.executable, *trial.words] if trial.words[0].endswith(".py") else trial.words
-    path = {"PATH": trial.path or os.environ["PATH"]}
-    environment = {key: value for key, value in os.environ.items() if key not in ("ACPIDIS", "CC")} | path
+    environment = {**os.environ, "PATH": trial.path or os.environ["PATH"]}
+    for variable in ("ACPIDIS", "CC"):
+        environment.pop(variable, None)
+    how = {"stdin": subprocess.DEVNULL, "capture_output": True, "text": True, "errors": "replace", "check": False}
     try:
-        ran = subprocess.run(
-            words, cwd=folder, env=environment, stdin=subprocess.DEVNULL, capture_output=True, timeout=LONGEST, check=False
-        )
+        ran = subprocess.run(words, cwd=folder, env=environment, timeout=LONGEST, **how)
     except subprocess.TimeoutExpired:
         return f"no end after {LONGEST} seconds"
-    last = ran.stdout.decode(errors="replace").rstrip("\n").rpartition("\n")[2]
+    last = ran.stdout.rstrip("\n").rpartition("\n")[2]
     counts = re.fullmatch(r"\d+ passed, (\d+) failed", last)
-    missing = [it for it in trial.said if it not in ran.stdout.decode(errors="replace")]
+    missing = [it for it in trial.said if it not in ran.stdout]
     if ran.returncode == 0 or missing:
         return f"status {ran.returncode}, and last the line {last!r}" + "".join(f", without {it!r}" for it in missing)
     return f"status {ran.returncode}, but last the line {last!r}" if counts and counts[1] == "0" else None
 
 
 def main():
-    words = sys.argv[1:]
+    words, checks = sys.argv[1:], Tally()
     with tempfile.TemporaryDirectory() as name, concurrent.futures.ThreadPoolExecutor(len(os.sched_getaffinity(0))) as pool:
         room = pathlib.Path(name)
         made = [it for it in trials(room) if not words or any(word in it.name for word in words)]
         kinds = {str(it.files): it.files for it in made}
         copies = {kind: copy_with(files, room / str(number)) for number, (kind, files) in enumerate(kinds.items())}
-        faults = list(pool.map(fault_of, made, (copies[str(it.files)] for it in made)))
-    for trial, fault in zip(made, faults):
-        if fault:
-            print(f"FAILED {trial.name}: {fault}")
-    print(f"{faults.count(None)} passed, {len(faults) - faults.count(None)} failed")
-    sys.exit(any(faults) or not faults)
+        faults = pool.map(fault_of, made, (copies[str(it.files)] for it in made))
+        for trial, fault in zip(made, faults):
+            checks.is_so(f"{trial.name}: {fault}", not fault)
+    checks.end()
 
 
 if __name__ == "__main__":

@@ -3,8 +3,13 @@
 from __future__ import annotations
 
 import argparse
+import importlib.util
+import itertools
 import pathlib
+import subprocess
 import sys
+import types
+from collections.abc import Iterable
 
 sys.dont_write_bytecode = True
 TOP = pathlib.Path(__file__).resolve().parent.parent
@@ -37,6 +42,42 @@ class Tally:
         """Prints the last line, and ends the test."""
         print(f"{self.passed} passed, {self.failed} failed")
         sys.exit(self.failed > 0 or not self.passed)
+
+
+def first_difference(got: Iterable, wanted: Iterable) -> str | None:
+    """What some values or lines differ in first from others; None where they are the same."""
+    pairs = enumerate(itertools.zip_longest(got, wanted, fillvalue="the end"), 1)
+    return next((f"place {at}: {one!r}, not {other!r}" for at, (one, other) in pairs if one != other), None)
+
+
+def written(folder: pathlib.Path, files: dict[str, bytes]) -> pathlib.Path:
+    """A new folder with files of these contents, by their names."""
+    folder.mkdir(parents=True)
+    for name, data in files.items():
+        (folder / name).write_bytes(data)
+    return folder
+
+
+def module_of(name: str, file: pathlib.Path) -> types.ModuleType:
+    """A module of this name, whatever its file is called."""
+    spec = importlib.util.spec_from_file_location(name, file)
+    module = importlib.util.module_from_spec(spec)
+    sys.modules[name] = module
+    spec.loader.exec_module(module)
+    return module
+
+
+def run_script(name: str, *words: object, **more: object) -> subprocess.CompletedProcess:
+    """Runs a script of examples/, by its file's name. What it writes is text."""
+    how = {"stdout": subprocess.PIPE, "stderr": subprocess.PIPE, "text": True, "check": False, **more}
+    return subprocess.run([sys.executable, TOP / "examples" / name, *map(str, words)], **how)
+
+
+def on_full_disk(name: str, *words: object, **more: object) -> tuple[int, str]:
+    """The status of a script whose standard output takes nothing, and what it says of that."""
+    with open("/dev/full", "wb") as full:
+        run = run_script(name, *words, stdout=full, **more)
+    return run.returncode, run.stderr
 
 
 def parser(about: str | None, folders: bool = False) -> argparse.ArgumentParser:

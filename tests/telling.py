@@ -5,11 +5,13 @@ import random
 import tempfile
 from collections.abc import Iterator
 
-from tally import DEMO  # before the others, whose places it tells
+from tally import DEMO, written  # before the others, whose places it tells
 import pages
 from any_run import RunNamespace, RunReader
+from dumps import aml_of, order_of
+from folders import read_folder
 from loading import Loaded, Namespace, path_text
-from made_aml import device, method, packed, table
+from made_aml import device, field, method, packed, region, scope, table, tables
 from made_sets import SetMaker
 from reading import ALIAS, ELSE, EXTERNAL, FIELD_LISTS, IF, METHOD, ROWS, SCOPE, SCOPES
 from reading import Name, Named, Op, Reader
@@ -29,8 +31,8 @@ Told = tuple[str, str, object, tuple]
 # ---- sample sets
 
 
-def field_list(region: bytes, units: bytes) -> bytes:
-    return b"\x5B\x80" + region + b"\0\0\x0A\x10" + packed(b"\x5B\x81", region + b"\1" + units)
+def field_list(name: bytes, units: bytes) -> bytes:
+    return region(name, 0, b"\0", b"\x0A\x10") + field(name, 1, units)
 
 
 HOSTILE_TEXT = b"<script>alert(1)</script>&amp;'\"\x01 -->"
@@ -47,21 +49,20 @@ DEVICE = (
 BUS = b"\x08_HID\x0C\x41\xD0\x0A\x08" + b"\x08_CID" + packed(b"\x12", b"\1\x0C\x41\xD0\x0A\x03") + b"\x08INIT\0"
 DSDT = (
     b"\x08NAME\x0D" + HOSTILE_TEXT + b"\0" + method(b"INIT", 1, b"\xA4\x68")
-    + packed(b"\x10", b"\\_SB_" + device(b"PCI0", BUS + device(b"DEV0", DEVICE)))
+    + scope(b"\\_SB_", device(b"PCI0", BUS, device(b"DEV0", DEVICE)))
     + b"\x15\\EXTN\x08\x01" + b"\x15\\EXTN\x08\x01" + method(b"RAWM", 0, b"\xA4ZZZZ\x01") + b"\x06INITALIA"
 )
+ON = b"ALIAEXTN\x01" + b"CALL" + b"^_STA" + b"\x70\\/\4_SB_PCI0DEV0UNIT\x60" + b"\x70\x01^^^^NONE"
 SSDT = (
-    packed(b"\xA0", b"\0\x15\\/\3_SB_PCI0DEV0\x06\0") + packed(b"\x10", b"\\/\3_SB_PCI0DEV0" + method(
-        b"_ON_", 0, b"ALIAEXTN\x01" + b"CALL" + b"^_STA" + b"\x70\\/\4_SB_PCI0DEV0UNIT\x60" + b"\x70\x01^^^^NONE",
-    ))
-    + packed(b"\x10", b"\\\0\x08LATE" + packed(b"\x12", b"\4INITLATE.PCI0INIT\\\0"))
+    packed(b"\xA0", b"\0\x15\\/\3_SB_PCI0DEV0\x06\0") + scope(b"\\/\3_SB_PCI0DEV0", method(b"_ON_", 0, ON))
+    + scope(b"\\\0", b"\x08LATE", packed(b"\x12", b"\4INITLATE.PCI0INIT\\\0"))
 )
 HOSTILE_FILES = {
     "<script>alert(1)<!--&\"'.dat": table(b"DSDT", DSDT),
     "ssdt1 \" onload=alert(1) x='&lt;": table(b"SSDT", SSDT),
     "x\n<b>.dat": table(b"OEM1", b""),
 }
-PAGES_FILES = {"dsdt.dat": table(b"DSDT", pages.DSDT), "ssdt1.dat": table(b"SSDT", pages.SSDT)}
+PAGES_FILES = pages.SETS["mine"]
 
 # Two branches that declare a method, a nearer one that only may stand, a Device that is declared again, a Scope of what
 # nothing declares, and code that runs in front of a nearer declaration.
@@ -70,33 +71,30 @@ BRANCHES = (
 )
 NEARER = b"\x70COND\x60" + b"\x08COND\1" + packed(b"\xA0", b"COND" + method(b"FOO_", 1, b""))
 RUNS = (
-    b"\x08COND\0" + BRANCHES + device(b"DEV0", NEARER + method(b"CALL", 0, b"FOO_\1"))
-    + device(b"DEV0", b"\x08LATE\0") + packed(b"\x10", b"\\RP99" + b"\x08NEAR\0")
+    b"\x08COND\0" + BRANCHES + device(b"DEV0", NEARER, method(b"CALL", 0, b"FOO_\1"))
+    + device(b"DEV0", b"\x08LATE\0") + scope(b"\\RP99", b"\x08NEAR\0")
 )
-RUNS_FILES = {"dsdt.dat": table(b"DSDT", RUNS)}
-
-
-def written(folder: pathlib.Path, files: dict[str, bytes]) -> pathlib.Path:
-    folder.mkdir(parents=True)
-    for name, data in files.items():
-        (folder / name).write_bytes(data)
-    return folder
+RUNS_FILES = tables(RUNS)
 
 
 def samples(room: pathlib.Path, folders: list, sets: int) -> Iterator[tuple[str, pathlib.Path, Options, Outcome]]:
     """Sets with the options of a run, and how that ends: those above, folders, and so many made-up ones that are taken,
     without and with code outside methods."""
-    told = {"the set of docs/listing.md": ("listed", PAGES_FILES), "the hostile set": ("hostile", HOSTILE_FILES)}
-    named = [(what, written(room / name, files), Options()) for what, (name, files) in told.items()]
-    named += [("the demo", DEMO, Options()), ("the set of runs", written(room / "runs", RUNS_FILES), Options(any_run=True))]
-    for what, folder, options in [*named, *((str(it), it, Options(any_run=True, any_sum=True)) for it in folders)]:
+    named = [
+        ("the set of docs/listing.md", written(room / "listed", PAGES_FILES), Options()),
+        ("the hostile set", written(room / "hostile", HOSTILE_FILES), Options()),
+        ("the demo", DEMO, Options()),
+        ("the set of runs", written(room / "runs", RUNS_FILES), Options(any_run=True)),
+        *((str(it), it, Options(any_run=True, any_sum=True)) for it in folders),
+    ]
+    for what, folder, options in named:
         yield what, folder, options, run_folder(folder, options)
     for any_run in (False, True):
         maker, number = SetMaker(random.Random(0), any_run=any_run), 0
         while number < sets:
             trial = maker.trial()
             with tempfile.TemporaryDirectory() as name:
-                folder = written(pathlib.Path(name) / "set", trial.files)
+                folder = written(pathlib.Path(name, "set"), trial.files)
                 outcome = run_folder(folder, trial.options)
                 if not trial.options.check and outcome.status != REFUSED:
                     yield f"made-up set {number}", folder, trial.options, outcome
@@ -182,6 +180,12 @@ def may_mean(space: Namespace, scope: Path, name: Name, own: dict) -> list[Path]
         if path in own or space.is_sure(path):
             return found
     return found or [path for path in name.candidates(scope) if path in space.externals][:1]
+
+
+def teller_of(folder: pathlib.Path, options: Options) -> "Teller":
+    """Tells of the dumps of a folder."""
+    dumps = read_folder(folder)
+    return Teller([aml_of(dumps[index].data) for index in order_of(dumps, options.any_sum)], options)
 
 
 class Teller:
@@ -277,18 +281,16 @@ class Teller:
                 self.tell_led(names[0], self.led_by(term), scope)
                 self.tell_declared(names[1], scope)
             elif opcode == EXTERNAL:
-                self.tell_external(names[0], names[0].placed(scope))
+                path = names[0].placed(scope)
+                is_first = not self.space.kind(path) and path not in self.seen
+                self.seen.add(path)
+                self.tell(names[0], "declares" if is_first else "leads", path)
             elif opcode in (IF, ELSE, WHILE):
                 for part in term.parts:
                     self.tell_term(part, scope, {}, "read")
                 self.tell_terms(term.tail, scope)
             else:
                 self.tell_term(term, scope, {}, "read")
-
-    def tell_external(self, name: Name, path: Path) -> None:
-        is_first = not self.space.kind(path) and path not in self.seen
-        self.seen.add(path)
-        self.tell(name, "declares" if is_first else "leads", path)
 
     def tell_body(self, terms: list, path: Path) -> None:
         own: dict[Path, int] = {}

@@ -5,12 +5,14 @@ In place of the prover the checks run a script, which takes a function with the 
 constant, for one with a goal that it can't show, and can't read the word UNREADABLE. The last line is 'N passed, N failed'.
 """
 
-import importlib.util
+import pathlib
 import os
 import re
 import tempfile
 
-TOP = os.path.dirname(os.path.abspath(__file__))
+from tally import TOP, Tally, module_of  # before the others, whose places it tells
+
+TESTS = TOP / "tests"
 # The answers that the function `reading::read_name` has: to one goal, by a step on the way
 ANSWERS = """front : (c : goal.In-Ok) → Front c.name
 front c = name_front _
@@ -116,16 +118,16 @@ class Crate:
         return ["--crate-name", self.name, "src/lib.rt", *flags]
 
 
-def fails_of_checks(tried, room):
-    """Whether each trial gets other verdicts than it has to, or another number of checks."""
+def check_trials(checks, tried, room):
+    """Whether each trial gets the verdicts that it has to, by as many checks."""
     tried.TOP, log = room, f"{room}/log"
-    folder = f"{room}/crates/{Crate.name}"
-    for name, text in {**{f"{folder}/{name}": text for name, text in SOURCES.items()}, f"{room}/prover": PROVER.format(log=log)}.items():
-        os.makedirs(os.path.dirname(name), exist_ok=True)
-        tried.write(name, text)
+    files = {f"crates/{Crate.name}/{name}": text for name, text in SOURCES.items()}
+    for name, text in {**files, "prover": PROVER.format(log=log)}.items():
+        pathlib.Path(room, name).parent.mkdir(parents=True, exist_ok=True)
+        tried.write(f"{room}/{name}", text)
     os.chmod(f"{room}/prover", 0o755)
     kit = type("Kit", (), {"RATTLE": f"{room}/prover"})
-    for changes, wanted, checks in TRIALS:
+    for changes, wanted, count in TRIALS:
         tried.write(log, "")
         waiting = [
             tried.WrongBody(name, [change], {tried.place_at(change[0], SOURCES[change[0]], SOURCES[change[0]].index(change[1]))})
@@ -134,36 +136,27 @@ def fails_of_checks(tried, room):
         found = dict(tried.judged(kit, Crate(), waiting, f"{room}/kept", None, is_seeded=False))
         runs = tried.read(log).splitlines()
         told = {name: (it.kind, wanted[name][1] in it.reason and wanted[name][1]) for name, it in found.items()}
-        if told != wanted or len(runs) != checks:
-            print(f"FAILED {', '.join(changes)}: wanted {wanted} by {checks} checks, got {found} by", *runs, sep="\n    ")
-            yield True
-        else:
-            yield False
+        checks.is_same(f"{', '.join(changes)}: {found} by {runs}", (told, len(runs)), (wanted, count))
 
 
 def main():
-    spec = importlib.util.spec_from_file_location("wrong_bodies", f"{TOP}/wrong_bodies.py")
-    tried = importlib.util.module_from_spec(spec)
-    spec.loader.exec_module(tried)
+    checks, tried = Tally(), module_of("wrong_bodies", TESTS / "wrong_bodies.py")
     places = {
         "read_name": tried.Place("reading", "reading::read_name", None),
         "encode_node": tried.Place("encode", "encode::encode_node", "encode"),
     }
-    fails = []
     with tempfile.TemporaryDirectory() as proofs:
         os.makedirs(f"{proofs}/reading/read_name")
         tried.write(f"{proofs}/reading/read_name/Answers.antt", ANSWERS)
-        for function, kind, words, printed in SAMPLE.findall(tried.read(f"{TOP}/verdicts.txt")):
+        for function, kind, words, printed in SAMPLE.findall(tried.read(TESTS / "verdicts.txt")):
             body = tried.WrongBody("made_up", [], {places[function]})
             verdict = tried.verdict_of(body, *tried.read_output(printed, proofs), printed)
-            fails.append(str(verdict.kind) != kind or words not in verdict.reason)
-            if fails[-1]:
-                print(f"FAILED: wanted {kind} with '{words}', got {verdict} of:", *printed.splitlines(), sep="\n    ")
+            is_right = str(verdict.kind) == kind and words in verdict.reason
+            checks.is_so(f"wanted {kind} with '{words}', got {verdict} of:\n{printed}", is_right)
     with tempfile.TemporaryDirectory() as room:
-        fails += fails_of_checks(tried, room)
-    print(f"{fails.count(False)} passed, {fails.count(True)} failed")
-    return int(any(fails))
+        check_trials(checks, tried, room)
+    checks.end()
 
 
 if __name__ == "__main__":
-    raise SystemExit(main())
+    main()

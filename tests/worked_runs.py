@@ -10,11 +10,11 @@ alone is tried. The last line is 'N passed, N failed'.
 """
 
 import dataclasses
+import itertools
 import pathlib
-import sys
 import tempfile
 
-from tally import PROGRAM, parser  # before the others, whose places it tells
+from tally import PROGRAM, TOP, Tally, first_difference, parser  # before the others, whose places it tells
 from cases import Rows, options_of
 from compare import run_program
 from folders import MAP_NAME
@@ -54,7 +54,7 @@ class ProgramRows(Rows):
 def examples(file):
     """Each row with its number and the lines below it."""
     found = []
-    for number, line in enumerate((pathlib.Path(__file__).resolve().parent / file).read_text().splitlines(), 1):
+    for number, line in enumerate((TOP / "tests" / file).read_text().splitlines(), 1):
         if line.startswith(MARGIN):
             found[-1][2].append(line.removeprefix(MARGIN))
         else:
@@ -62,33 +62,22 @@ def examples(file):
     return found
 
 
-def fails_of(file, readers):
-    """Of each row of a file that wants lines, and of each reader, whether it has others."""
-    for number, row, wanted in examples(file):
-        for name, reader in readers.items():
-            got = reader.answer(row)
-            if got != wanted:
-                one, other = next(pair for pair in zip([*got, "the end"], [*wanted, "the end"]) if pair[0] != pair[1])
-                print(f"FAILED {file} line {number}, {row}: {name} has {one!r}, not {other!r}")
-            if wanted or got:
-                yield got != wanted
-
-
 def main():
     words = parser(__doc__)
     words.add_argument("program", nargs="?", default=PROGRAM)
     words.add_argument("--read", action="store_true", help="try the independent reading alone")
-    asked = words.parse_args()
-    fails = []
+    asked, checks = words.parse_args(), Tally()
     for file in RUNS:
-        readers = {"tests/oracle": Rows()}
-        if not asked.read:
-            readers["acpidis"] = ProgramRows(asked.program)
-        # A file without examples shows nothing.
-        fails += list(fails_of(file, readers)) or [True]
-    print(f"{fails.count(False)} passed, {fails.count(True)} failed")
-    return int(any(fails))
+        rows = examples(file)
+        checks.is_so(f"{file} has no examples", any(wanted for *_, wanted in rows))
+        readers = {"tests/oracle": Rows()} | ({} if asked.read else {"acpidis": ProgramRows(asked.program)})
+        for (number, row, wanted), (name, reader) in itertools.product(rows, readers.items()):
+            got = reader.answer(row)
+            if wanted or got:
+                other = first_difference(got, wanted)
+                checks.is_so(f"{file} line {number}, {row}: {name} differs at {other}", not other)
+    checks.end()
 
 
 if __name__ == "__main__":
-    sys.exit(main())
+    main()

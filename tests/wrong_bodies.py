@@ -24,15 +24,13 @@ tried with all bodies, and at last alone, as one is at once that stands in no fu
 that one function alone names counts as a part of its body. One whose text can't be read is told so, and the others are tried
 without it.
 
-`rt must-fail CRATE` tries one after the other, each in a check of its own, 10 to 25 s long, so that 800 of them take
-hours. What this file adds to it is that alone: which bodies go together, and whose goal was refused.
+What this file adds to `rt must-fail` is which bodies go together in a check, and whose goal was refused.
 """
 
 import argparse
 import collections
 import concurrent.futures
 import glob
-import importlib.util
 import os
 import re
 import shutil
@@ -40,7 +38,9 @@ import subprocess
 import sys
 import tempfile
 
-TOP = os.path.dirname(os.path.dirname(os.path.abspath(__file__)))
+import tally
+
+TOP = str(tally.TOP)
 FUNCTION = re.compile(r"( {4})?(?:pub(?:\(\w+\))? )?(?:(?:const|final|unsafe|ghost) )*fn (\w+)")
 BLOCK = re.compile(r"(?:unsafe )?(?:pub )?(?:impl|trait)\b(?:<[^{]*?> )?\s*(?:(?P<trait>[\w:]+(?:<[^{]*?>)?) for )?(?P<type>\w+)")
 
@@ -64,12 +64,7 @@ Verdict = collections.namedtuple("Verdict", "kind reason")
 def kit():
     """The kit's library, which says how a crate is checked: it lies beside the command rt."""
     command = shutil.which("rt") or sys.exit("the Rattle kit isn't there: its command rt has to be on the PATH")
-    file = os.path.join(os.path.dirname(os.path.realpath(command)), "rtlib.py")
-    spec = importlib.util.spec_from_file_location("rtlib", file)
-    library = importlib.util.module_from_spec(spec)
-    sys.modules["rtlib"] = library
-    spec.loader.exec_module(library)
-    return library
+    return tally.module_of("rtlib", os.path.join(os.path.dirname(os.path.realpath(command)), "rtlib.py"))
 
 
 def read(file):
@@ -353,24 +348,11 @@ TRIED = re.compile(
 STALE = re.compile(r"has no (?:field|`)|not in scope|not admitted|is no name|cannot be named|unknown (?:name|module|field)|ambiguous|no module")
 
 
-def is_of(goal, path, names):
-    """Whether a goal is one of these functions: in a cycle of several its name begins with that of its function."""
-    cycle = path.rpartition("/")[2].partition("+")[2]
-    return cycle in {"", *names} or any(goal.startswith(f"{name}-") for name in names)
-
-
 def stands_at(place, path):
     """Whether a function, or the cycle that it is in, is the one at this path below proofs/."""
     above, _, name = (place.name or "").rpartition("::")
     own = rf"(^|/){above.replace('::', '/')}(\+[^/]*)?/\+?{name}$" if above else rf"(^|/)\+?{name}$"
     return bool(name and re.search(own, path)) or place.cycle is not None and path.split("/")[-1] == f"+{place.cycle}"
-
-
-def answered_goals(file):
-    """The goals that a file of answers has answers to: what else it declares is a step on the way."""
-    if not os.path.exists(file):
-        return set()
-    return set(re.findall(r"^pub (\S+)\s*:\s*goal\.", read(file), re.M))
 
 
 REFUSED = re.compile(r"(?:\./)?proofs/(\S+)/(Answers|Proof|Invariants)\.antt:\S+ error: (?:`([^`]+)`: )?(.*)")
@@ -388,7 +370,9 @@ def read_output(printed, proofs):
         answer, ended, counterexample = REFUSED.match(line), re.match(r"fn \w+::(\S+): (.*)", line), FALSE.match(line)
         if answer:
             path, file, name, said = answer.groups()
-            answers = answered_goals(f"{proofs}/{COPY.sub('', path)}/Answers.antt")
+            kept = f"{proofs}/{COPY.sub('', path)}/Answers.antt"
+            # What else a file of answers declares is a step on the way.
+            answers = re.findall(r"^pub (\S+)\s*:\s*goal\.", read(kept), re.M) if os.path.exists(kept) else []
             if file == "Answers" and name in answers and TRIED.search(said) and not STALE.search(said):
                 goals.setdefault(path, []).append(name)
             else:
@@ -416,7 +400,12 @@ def verdict_of(wrong, goals, others, printed):
     """
     names = {place.name.rpartition("::")[2] for place in wrong.places if place.name}
     is_own = lambda path: any(stands_at(place, path) for place in wrong.places) or not names
-    own = [(path, goal) for path in goals if is_own(path) for goal in goals[path] if is_of(goal, path, names)]
+    own = []
+    for path, goal in ((path, goal) for path in goals if is_own(path) for goal in goals[path]):
+        # In a cycle of several functions a goal's name begins with that of its function.
+        cycle = path.rpartition("/")[2].partition("+")[2]
+        if cycle in {"", *names} or any(goal.startswith(f"{name}-") for name in names):
+            own.append((path, goal))
     if own:
         return Verdict("refused", "; ".join(dict.fromkeys(f"{goal} of {path}" for path, goal in own)))
     told = [f"{path}: {it}" for path in others if is_own(path) for it in others[path]]

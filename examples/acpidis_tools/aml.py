@@ -7,6 +7,7 @@ tables mean the program alone says. Each byte is read once, and the search for n
 import pathlib
 import re
 import sys
+from collections import namedtuple
 
 from acpidis_tools import paths, standard
 
@@ -163,13 +164,8 @@ class Space:
 # ---- reading
 
 
-class Use:
-    """A name where a value is wanted: its term, the scope, the count that is known there, and the terms around it."""
-
-    __slots__ = ("term", "name", "scope", "read", "around")
-
-    def __init__(self, term, name, scope, read, around):
-        self.term, self.name, self.scope, self.read, self.around = term, name, scope, read, around
+# A name where a value is wanted: its term, the scope, the count that is known there, and the terms around it
+Use = namedtuple("Use", "term name scope read around")
 
 
 class Reader:
@@ -360,15 +356,12 @@ class Reader:
     def block(self, term, at, end, level):
         outside = self.scope
         if term.word == "Scope":
-            self.open_scope(term)
+            found, place = self.want(term)
+            self.scope = found or place or outside
         elif term.word in OPENERS:
             self.scope = self.declared(term, term.names()[0]) or outside
         term.tail = self.terms(at, end, level + 1)
         self.scope = outside
-
-    def open_scope(self, term):
-        found, place = self.want(term)
-        self.scope = found or place or self.scope
 
     def want(self, term):
         """What the first name of a Scope or an Alias leads to, and its place."""

@@ -7,7 +7,7 @@ import re
 from collections import defaultdict
 
 from acpidis_tools.comparison import Said, text_of, texts_of
-from acpidis_tools.decoding import Decoder, Template, flag_words, hardware_name
+from acpidis_tools.decoding import Decoder, flag_words, hardware_name
 from acpidis_tools.errors import Fault
 from acpidis_tools.identifiers import eisa_number
 from acpidis_tools.listing import Block, Dump, Line, Listing, Path, path_of, path_text
@@ -47,6 +47,7 @@ STATEMENTS = {
 LONGEST_STATEMENT = 1_000
 SEGMENT, SPEED = re.compile(r"[A-Z_][A-Z0-9_]{0,3}"), re.compile(r"([0-9]+) (?:Hz|baud)")
 INTERRUPTS = ("IRQ", "IRQNoFlags", "Interrupt", "GpioInt")
+TOKEN = re.compile(r'"[^"]*"|[(){},]|[^"(){},]+')
 
 
 def small(number: int | None) -> int | None:
@@ -155,7 +156,9 @@ class Collector:
             line = self.names.lines[row.path]
             count = int(more) if kind == "Method" else None
             stands = "maybe" if row.is_maybe else "always"
-            value = self.value_of(line) if kind == "Name" else None
+            # The number or the text that a Name has
+            term = self.decoder.terms(line)[0].argument(1) if kind == "Name" else None
+            value = term.word if term and not term.arguments and term.braced is None else None
             self.add_name(row.path, kind, count, None, stands, row.times, value, sums[row.path], files[line.number], line.number)
             if kind == "Alias":
                 targets.append((row.path, path_of(more)))
@@ -170,12 +173,6 @@ class Collector:
             self.rows["name"][self.ids[path] - 1][5] = self.ids.get(target)
             if self.kinds.get(target) == "Method":
                 self.kinds[path] = "Method"
-
-    def value_of(self, line: Line) -> str | None:
-        """The number or the text that a Name has."""
-        value = (*self.decoder.terms(line)[0].arguments, None, None)[1]
-        is_plain = value is not None and not value.arguments and value.braced is None
-        return value.word if is_plain else None
 
     def add_name(self, path: Path, kind: str, *values: object) -> None:
         self.ids[path] = self.add("name", path_text(path), kind, *values)
@@ -237,9 +234,8 @@ class Collector:
 
     def pci_address(self, scope: Path) -> tuple[int | None, int | None]:
         """The device and the function by the constant _ADR of the nearest device around (6.1.1)."""
-        while scope and self.kinds.get(scope) != "Device":
-            scope = scope[:-1]
-        name = self.ids.get((*scope, "_ADR")) if scope else None
+        path = self.nearest(scope, ("Device",))
+        name = self.ids.get((*path, "_ADR")) if path else None
         value = self.rows["name"][name - 1][CONSTANT[-1]] if name else None
         number = Term(value, 0).number if value else None
         return (None, None) if number is None or number >> 32 else (number >> 16, number & 0xFFFF)
@@ -362,26 +358,24 @@ class Collector:
     # ---- what bytes and numbers mean
 
     def device_of(self, line: Line) -> int | None:
-        """The nearest device around a line."""
-        path = line.scope
-        while path and self.kinds.get(path) not in DEVICES:
-            path = path[:-1]
+        path = self.nearest(line.scope, DEVICES)
         return self.ids.get(path) if path else None
 
-    def object_of(self, line: Line) -> str:
-        """The path of what a line declares, else of its method or scope."""
-        if line.declared is not None and line.term not in FIELD_LISTS:
-            return self.declared(line)[2]
-        return path_text(line.scope)
+    def nearest(self, path: Path, kinds: tuple[str, ...]) -> Path:
+        """The nearest path around a scope that is of one of these kinds."""
+        while path and self.kinds.get(path) not in kinds:
+            path = path[:-1]
+        return path
 
     def add_resources(self, line: Line) -> None:
         templates = self.decoder.templates(line)
-        for template in templates:
-            self.add_template(template, line)
-
-    def add_template(self, template: Template, line: Line) -> None:
-        device, object_path = self.device_of(line), self.object_of(line)
-        for one, patches in zip(template.descriptors, template.patches):
+        if not templates:
+            return
+        device = self.device_of(line)
+        # What has them is what a line declares, else its method or scope.
+        is_declared = line.declared is not None and line.term not in FIELD_LISTS
+        object_path = self.declared(line)[2] if is_declared else path_text(line.scope)
+        for one, patches in [pair for it in templates for pair in zip(it.descriptors, it.patches)]:
             self.add(
                 "resource", device, object_path, one.kind, small(one.first), small(one.last), small(one.length),
                 ", ".join(map(str, one.lines)) or None, *wires_of(one), one.text, ", ".join(dict.fromkeys(patches)) or None,
@@ -389,10 +383,10 @@ class Collector:
             )
 
     def add_identifiers(self, line: Line) -> None:
-        name = hardware_name(line)
         for _, text in self.decoder.identifiers(line):
             device = self.device_of(line)
-            self.add("identifier", device, name, text, eisa_number(text), DEVICE_NAMES.get(text), self.file, line.number)
+            name, number = hardware_name(line), eisa_number(text)
+            self.add("identifier", device, name, text, number, DEVICE_NAMES.get(text), self.file, line.number)
 
 
 def wires_of(one: Descriptor) -> tuple[str | None, int | None, str | None, str | None]:
@@ -413,16 +407,10 @@ def number_in(text: str) -> int:
 def argument_texts(line: Line) -> list[str]:
     """The texts of the arguments of a line's term."""
     parts, depth = [""], 0
-    for at, piece in enumerate(line.pieces[2:]):
-        if at % 2:
-            parts[-1] += piece
-            continue
-        for char in piece:
-            depth += (char in "({") - (char in ")}")
-            if char == "(" and depth == 1:
-                continue
-            if char == "," and depth == 1:
-                parts.append("")
-            elif depth:
-                parts[-1] += char
+    for token in TOKEN.findall("".join(line.pieces[2:])):
+        depth += (token in "({") - (token in ")}")
+        if token == "," and depth == 1:
+            parts.append("")
+        elif depth and (token, depth) != ("(", 1):
+            parts[-1] += token
     return [part.strip() for part in parts]

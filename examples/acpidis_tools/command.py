@@ -1,6 +1,7 @@
 """What all scripts have of a command: the words of its line, the options of acpidis that it passes on, and how it ends."""
 
 import argparse
+import contextlib
 import os
 import re
 import subprocess
@@ -15,9 +16,6 @@ OPTION = re.compile(r"^ {2}(?:-\w, | {4})(--[a-z][a-z-]*)(?: <(\w+)>)?(?= |$)", 
 # What comes with these is no listing.
 NO_LISTING = ("--help", "--version", "--check")
 SEGMENT = re.compile(r"[A-Z_][A-Z0-9_]{0,3}")
-
-
-# ---- the line
 
 
 def parser(about, **more):
@@ -43,9 +41,6 @@ def path_of(word):
     if not all(map(SEGMENT.fullmatch, segments)):
         raise argparse.ArgumentTypeError(f"{word!r} is no path, as \\_SB_.PCI0._PTS is one")
     return "\\" + ".".join(segment.ljust(4, "_") for segment in segments)
-
-
-# ---- options of acpidis
 
 
 def known():
@@ -84,9 +79,6 @@ def words_of(options):
     return [word for item in options.items() for word in item if word is not None]
 
 
-# ---- on the way
-
-
 class Progress:
     """How far a script is, in a line of a terminal, from two seconds on. Into a file or a pipe it says nothing."""
 
@@ -109,9 +101,6 @@ class Progress:
             self.is_shown = False
 
 
-# ---- the end
-
-
 def run(script, main):
     """Runs the main function of a script, and writes out what it printed. Where writing fails, or memory ends, it ends in a line."""
     try:
@@ -127,6 +116,34 @@ def run(script, main):
         leave(f"{script}: there is not enough memory")
     except KeyboardInterrupt:
         leave(f"{script}: interrupted")
+
+
+@contextlib.contextmanager
+def running_it(script):
+    """Ends a script in a line where acpidis refuses the set, or where that or a file is at fault."""
+    try:
+        yield
+    except running.Refused as fault:
+        sys.exit(f"{script}: the set is refused: {fault}")
+    except (running.Unusable, OSError, ValueError) as fault:
+        print(f"{script}: {fault}", file=sys.stderr)
+        sys.exit(AT_FAULT)
+
+
+@contextlib.contextmanager
+def reading(script, refusal, front=""):
+    """Ends a script in a line where it refuses what it is given, or where a file is at fault."""
+    try:
+        yield
+    except refusal as fault:
+        sys.exit(f"{script}: {front}{fault}")
+    except OSError as fault:
+        leave(f"{script}: {fault.filename!r}: {fault.strerror}")
+
+
+def read(file):
+    with open(file, "rb") as opened:
+        return opened.read()
 
 
 def write(file, data):

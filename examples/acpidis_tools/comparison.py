@@ -45,15 +45,9 @@ def compare(one: Names, one_listing: Listing, other: Names, other_listing: Listi
     changed = [path for path in sorted(here.keys() & there.keys()) if text_of(here[path]) != text_of(there[path])]
     lines = {number for path in changed for number in different_lines(here[path], text_of(there[path]))}
     tables, table_lines = compare_tables(one_listing.dumps, other_listing.dumps)
-    return Comparison(
-        name,
-        {path: text_of(there[path]) for path in sorted(there.keys() - here.keys())},
-        here.keys() - there.keys(),
-        {path: text_of(there[path]) for path in changed},
-        {path: text_of(here[path]) for path in changed},
-        lines | table_lines,
-        tables,
-    )
+    adds = {path: text_of(there[path]) for path in sorted(there.keys() - here.keys())}
+    ours, theirs = ({path: text_of(texts[path]) for path in changed} for texts in (here, there))
+    return Comparison(name, adds, here.keys() - there.keys(), theirs, ours, lines | table_lines, tables)
 
 
 def text_of(said: Said) -> Text:
@@ -142,9 +136,6 @@ def unit_places(listing: Listing) -> dict[int, str]:
 def shortened(text: str) -> str:
     """A text that stands before each unit of a list: a long one by its sum, so that all of them take little room."""
     return text if len(text) <= LONGEST else f"{text[:LONGEST]}.. {hashlib.sha256(text.encode()).hexdigest()}"
-
-
-# ---- tables
 
 
 def compare_tables(here: list[Dump], there: list[Dump]) -> tuple[dict[str, Optional[Text]], set[int]]:

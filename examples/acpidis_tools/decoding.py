@@ -100,8 +100,6 @@ class Decoder:
         kind = self.terms(line)[0].argument(0)
         return named(ACCESS_TYPES, (kind.number or 0) & 0x0F) if kind else ""
 
-    # ---- meanings of a line's names by the places of its words
-
     def meanings(self, line: Line) -> dict[int, Meaning]:
         places_of_names = (place for place, word in enumerate(line.words) if is_name(word))
         return dict(zip(places_of_names, self.names.meanings[line.number]))
@@ -123,10 +121,13 @@ class Decoder:
             bits = count.number
         return index.number * unit if index and index.number is not None else None, bits
 
-    # ---- buffers
-
     def buffers(self, line: Line) -> list[Term]:
-        return buffers_of(self.terms(line)) if "Buffer" in line.pieces else []
+        """The buffers of which all bytes stand in the line."""
+        if "Buffer" not in line.pieces:
+            return []
+        found = [term for term, _ in places(self.terms(line)) if isinstance(term.braced, bytes)]
+        found = [term for term in found if term.word == "Buffer" and term.argument(0)]
+        return [term for term in found if term.arguments[0].number == len(term.braced)]
 
     def templates(self, line: Line) -> list[Template]:
         found = []
@@ -161,8 +162,6 @@ class Decoder:
     def uuids(self, line: Line) -> list[str]:
         return [text for term in self.buffers(line) for text in [uuid_text(term.braced)] if text]
 
-    # ---- predefined objects
-
     def rows(self, line: Line) -> list[str]:
         """What the value of a predefined object says, which a line declares or returns."""
         if line.term not in ("Name", "Return") or len(line.words) < 2:
@@ -181,8 +180,6 @@ class Decoder:
         meaning = self.meanings(line).get(1)
         return self.returned.get(meaning.anchor, "") if meaning else ""
 
-    # ---- identifiers
-
     def identifiers(self, line: Line) -> list[tuple[int, str]]:
         """The identifiers that a line gives a device by _HID or _CID, each with the place of its word."""
         if hardware_name(line) is None:
@@ -197,8 +194,6 @@ class Decoder:
                 found.append((term.place, eisa_id(term.word)))
         return found
 
-    # ---- notes
-
     def notes(self, line: Line) -> list[str]:
         """What to say behind a line, in a few words each."""
         notes = [with_name(text) for _, text in self.identifiers(line)]
@@ -210,39 +205,23 @@ class Decoder:
         elif line.term in FIELD_LISTS:
             notes.append(", ".join(flag_words(self.terms(line))))
         elif line.term == "OperationRegion":
-            notes += self.space_note(line)
+            space = self.terms(line)[0].argument(1)
+            notes += [space_name(space.number)] if space and space.number is not None else []
         elif line.term in ("Name", "Method", "Device", "Return"):
             notes += self.name_notes(line, bool(notes))
         return notes
 
-    def space_note(self, line: Line) -> list[str]:
-        space = self.terms(line)[0].argument(1)
-        return [space_name(space.number)] if space and space.number is not None else []
-
     def name_notes(self, line: Line, has_identifier: bool) -> list[str]:
         name = declared_name(line)
         if name == "_STA" or line.term == "Return" and line.method and line.method[-1] == "_STA":
-            return self.status_notes(line, name)
+            value = self.terms(line)[0].argument(1 if name else 0) if line.term != "Method" else None
+            if value and value.number is not None:
+                return [status_words(value.number)]
+            return [PREDEFINED_NAMES[name]] if name else []
         form = EVENT.fullmatch(name)
         if form and line.term == "Method":
             return [f"{EVENTS[form[1]]} 0x{form[2]}"]
         return [PREDEFINED_NAMES[name]] if name in PREDEFINED_NAMES and not has_identifier else []
-
-    def status_notes(self, line: Line, name: str) -> list[str]:
-        value = (*self.terms(line)[0].arguments, None)[1 if name else 0] if line.term != "Method" else None
-        if value and value.number is not None:
-            return [status_words(value.number)]
-        return [PREDEFINED_NAMES[name]] if name else []
-
-
-def buffers_of(terms: list[Term]) -> list[Term]:
-    """The buffers of which all bytes stand in the line."""
-    return [
-        term for term, _ in places(terms)
-        if term.word == "Buffer" and isinstance(term.braced, bytes) and term.arguments and term.arguments[0]
-        and term.arguments[0].number == len(term.braced)
-    ]
-
 
 def hardware_name(line: Line) -> str | None:
     """_HID or _CID, where a line gives the value of such an object: declared so, or returned by such a method."""

@@ -149,8 +149,6 @@ class Names:
             if len(lines) != row.times or row.is_maybe == (path in self.sure):
                 raise NoListing(f"line {row.number}: {path_text(path)} is declared otherwise in its definition blocks")
 
-    # ---- the load pass
-
     def load(self, lines: list[Line]) -> None:
         """Says of each line where it stands, and what it declares."""
         opened = [Open(lines[0].end, ROOT, None, False, True)]
@@ -220,8 +218,6 @@ class Names:
         """The path that a Scope opens, by what stands before it: where nothing does, the one at which it is placed."""
         found = self.find(line.scope, name_of(word))
         return found[0] if found else self.place(line, word)
-
-    # ---- meanings
 
     def read(self, lines: list[Line]) -> None:
         """Says what the names of a block mean. A body's own names are known from the end of what declares them."""

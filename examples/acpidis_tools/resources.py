@@ -10,7 +10,6 @@ from acpidis_tools.standard import space_name
 # Where the content of a descriptor begins.
 SMALL, LARGE = 1, 3
 END = 0x0F
-NOWHERE = 0xFFFF
 
 
 class Descriptor(NamedTuple):
@@ -120,15 +119,12 @@ def fixed_dma(data: Bytes) -> Descriptor:
 # ---- memory and registers (6.4.3.1 to 6.4.3.4, 6.4.3.7)
 
 
-def memory24(data: Bytes) -> Descriptor:
-    first, last, align, length = data.numbers(4, 2, 4)
-    words = flags(f"align 0x{align:X}" if align else "align 0x10000", read_only(data))
-    return Descriptor("Memory24", first << 8, last << 8, length << 8, 6, words=words)
-
-
-def memory32(data: Bytes) -> Descriptor:
-    first, last, align, length = data.numbers(4, 4, 4)
-    return Descriptor("Memory32", first, last, length, words=flags(f"align 0x{align:X}", read_only(data)))
+def memory(kind: str, data: Bytes, width: int, shift: int) -> Descriptor:
+    """A window of memory, whose numbers have so many bytes, and count bytes or 256 of them."""
+    first, last, align, length = (it << shift for it in data.numbers(4, width, 4))
+    align = align >> shift or (0x10000 if shift else 0)
+    words = flags(f"align 0x{align:X}", read_only(data))
+    return Descriptor(kind, first, last, length, 8 - shift // 4, words=words)
 
 
 def read_only(data: Bytes) -> str:
@@ -210,7 +206,7 @@ def gpio(data: Bytes) -> Descriptor:
         words = RESTRICTIONS[kept & 3], "shared" if kept >> 3 & 1 else ""
     else:
         words = interrupt_words(kept & 1, kept >> 1 & 3, kept >> 3 & 3)
-    words = flags(
+    words = (
         *words, PULLS[pull] if pull < len(PULLS) else f"pull {pull}", f"drive {strength}" if strength else "",
         f"debounce {debounce}" if debounce else "",
     )
@@ -219,7 +215,22 @@ def gpio(data: Bytes) -> Descriptor:
 
 def with_pins(kind: str, data: Bytes, words: tuple[str, ...], places: tuple[int, int], source: int) -> Descriptor:
     """A descriptor whose pins stand between two offsets, and its source at another one."""
-    return Descriptor(kind, lines=pins(data, *places), words=words, source=data.text(data.number(source, 2)))
+    device = data.text(data.number(source, 2))
+    return Descriptor(kind, lines=pins(data, *places), words=flags(*words), source=device)
+
+
+def shared(data: Bytes) -> str:
+    return "shared" if data.bits(4, 0) else ""
+
+
+def grouped(kind: str, data: Bytes, words: tuple[str, ...], source: int) -> Descriptor:
+    """A descriptor of a group of pins, whose label has its offset behind that of the source."""
+    label = f"label {data.text(data.number(source + 2, 2))}"
+    return Descriptor(kind, words=(*words, label), source=data.text(data.number(source, 2)))
+
+
+def configured(data: Bytes) -> tuple[str, str]:
+    return f"type {data.number(6, 1)}", f"value {data.number(7, 4)}"
 
 
 def serial_bus(data: Bytes) -> Descriptor:
@@ -241,26 +252,6 @@ def serial_bus(data: Bytes) -> Descriptor:
     raise ValueError("no such bus")
 
 
-def pin_function(data: Bytes) -> Descriptor:
-    words = flags(f"function {data.number(7, 2)}", "shared" if data.bits(4, 0) else "")
-    return with_pins("PinFunction", data, words, (9, 12), 12)
-
-
-def pin_config(data: Bytes) -> Descriptor:
-    words = flags(f"type {data.number(6, 1)}", f"value {data.number(7, 4)}", "shared" if data.bits(4, 0) else "")
-    return with_pins("PinConfig", data, words, (11, 14), 14)
-
-
-def pin_group_function(data: Bytes) -> Descriptor:
-    words = (f"function {data.number(6, 2)}", f"label {data.text(data.number(11, 2))}")
-    return Descriptor("PinGroupFunction", words=words, source=data.text(data.number(9, 2)))
-
-
-def pin_group_config(data: Bytes) -> Descriptor:
-    words = (f"type {data.number(6, 1)}", f"value {data.number(7, 4)}", f"label {data.text(data.number(14, 2))}")
-    return Descriptor("PinGroupConfig", words=words, source=data.text(data.number(12, 2)))
-
-
 # ---- all of them: each with the least and the most bytes of its content
 
 ANY = 0xFFFF
@@ -271,11 +262,16 @@ SMALLS = {
     0x0E: (0, 7, lambda it: Descriptor("VendorShort", words=(f"{len(it.data) - SMALL} bytes",))),
 }
 LARGES = {
-    0x01: (9, 9, memory24), 0x02: (12, 12, register), 0x05: (17, 17, memory32), 0x07: (23, ANY, address_space("DWord", 4)),
+    0x01: (9, 9, lambda it: memory("Memory24", it, 2, 8)), 0x02: (12, 12, register),
+    0x05: (17, 17, lambda it: memory("Memory32", it, 4, 0)), 0x07: (23, ANY, address_space("DWord", 4)),
     0x08: (13, ANY, address_space("Word", 2)), 0x09: (6, ANY, interrupt), 0x0A: (43, ANY, address_space("QWord", 8)),
-    0x0B: (53, 53, address_space("Extended", 8)), 0x0C: (20, ANY, gpio), 0x0D: (15, ANY, pin_function),
-    0x0E: (9, ANY, serial_bus), 0x0F: (17, ANY, pin_config), 0x11: (14, ANY, pin_group_function),
-    0x12: (17, ANY, pin_group_config),
+    0x0B: (53, 53, address_space("Extended", 8)), 0x0C: (20, ANY, gpio), 0x0E: (9, ANY, serial_bus),
+    0x0D: (
+        15, ANY, lambda it: with_pins("PinFunction", it, (f"function {it.number(7, 2)}", shared(it)), (9, 12), 12),
+    ),
+    0x0F: (17, ANY, lambda it: with_pins("PinConfig", it, (*configured(it), shared(it)), (11, 14), 14)),
+    0x11: (14, ANY, lambda it: grouped("PinGroupFunction", it, (f"function {it.number(6, 2)}",), 9)),
+    0x12: (17, ANY, lambda it: grouped("PinGroupConfig", it, configured(it), 12)),
     0x04: (0, ANY, lambda it: Descriptor("VendorLong", words=(f"{len(it.data) - LARGE} bytes",))),
     0x06: (
         9, 9, lambda it: Descriptor("Memory32Fixed", it.number(4, 4), length=it.number(8, 4), words=flags(read_only(it))),

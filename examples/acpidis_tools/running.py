@@ -9,13 +9,13 @@ import pathlib
 import re
 import shutil
 import subprocess
+from collections import namedtuple
 
 from acpidis_tools import paths, standard
 from acpidis_tools.listing import SEGMENT, NoListing, reader_of
 
 LAUNCHER = pathlib.Path(__file__).resolve().parents[2] / "acpidis"
 NAME = re.compile(rf"(\\|\^*)({SEGMENT}(?:\.{SEGMENT})*|)")
-TOKEN = re.compile(r'"[^"]*"|[\\^A-Za-z0-9_.]+|[(){},]')
 # A name is looked for in each scope around it, which a hostile set could make many.
 MOST_SEGMENTS = 64
 MOST_SHOWN = 40
@@ -230,11 +230,8 @@ class Listing:
         return node, self.methods[-1]
 
 
-class Run:
-    """What a run printed: the reason why the set is refused, or the listing and the fault of each raw body."""
-
-    def __init__(self, refused, listing, faults):
-        self.refused, self.listing, self.faults = refused, listing, faults
+# What a run printed: the reason why the set is refused, or the listing and the fault of each raw body
+Run = namedtuple("Run", "refused listing faults")
 
 
 def run(words):

@@ -94,10 +94,13 @@ class Reader:
 
 
 def terms_of(line: Line) -> list[Term]:
-    if not line.term or line.term == "Raw":
-        return []
-    reader, last = Reader(), len(line.pieces) - 1
-    for at, piece in enumerate(line.pieces):
+    return terms_in(line.pieces) if line.term and line.term != "Raw" else []
+
+
+def terms_in(pieces: list[str]) -> list[Term]:
+    """The terms of a line's pieces, of which every second is a word."""
+    reader, last = Reader(), len(pieces) - 1
+    for at, piece in enumerate(pieces):
         if at % 2:
             reader.word(piece, at // 2)
             continue

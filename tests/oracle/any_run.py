@@ -1,24 +1,18 @@
 """Code outside methods, as --any-run reads it, after docs/any_run.md: its terms are read from
 the left, each with the counts of what stands before it, and declare what then stands surely or only may stand."""
 
+from collections import namedtuple
 from dataclasses import dataclass
-from typing import NamedTuple
 
 from loading import MOST_METHODS, PREDEFINED, Loaded, Method, Namespace, Unloadable, path_text, placed
-from reading import ALIAS, EXTERNAL, FIELD_LISTS, KINDS, METHOD, ROWS, SCOPE, SCOPES, Name, Reader, Refused
+from reading import ALIAS, EXTERNAL, FIELD_LISTS, KINDS, METHOD, ROWS, SCOPE, SCOPES, Reader, Refused
 
 # The kinds of paths that a Scope opens in every run that has them
 SCOPE_KINDS = {"Scope", *(KINDS[opcode] for opcode in SCOPES - {SCOPE})}
 
 
-class Use(NamedTuple):
-    """A name where a value is wanted or a term stands, with the number of its arguments that were read."""
-
-    table: int
-    scope: tuple
-    name: Name
-    count: int
-    in_declaration: bool
+# A name where a value is wanted or a term stands, with the number of its arguments that were read
+Use = namedtuple("Use", "table scope name count in_declaration")
 
 
 class RunNamespace(Namespace):
@@ -28,8 +22,6 @@ class RunNamespace(Namespace):
     def __init__(self, given=()):
         super().__init__(given)
         self.declarations = {}
-
-    # ---- paths
 
     def kinds_of(self, path):
         """What may stand at a path: the kinds up to the first sure one, or all and the predefined one."""
@@ -52,8 +44,6 @@ class RunNamespace(Namespace):
     def rows(self):
         """The declared paths with the kinds of their first declarations, and their marks."""
         return sorted((path, found[0][0], marks_of(found)) for path, found in self.declarations.items())
-
-    # ---- counts
 
     def counts(self, path):
         """How many arguments each of the kinds takes that may stand at a path; None where nobody knows."""
@@ -95,8 +85,6 @@ class RunNamespace(Namespace):
             return self.externals[external]
         given = self.given_count(scope, name)
         return 0 if given is None and unknown_zero else given
-
-    # ---- declarations
 
     def find(self, scope, name, declared=()):
         """Where a name leads in every run, or None."""

@@ -6,16 +6,13 @@
 It shares nothing with the program: the modules beside it read code, namespaces, tables and whole sets after docs/.
 """
 
-import pathlib
 import re
 import sys
 
 sys.dont_write_bytecode = True
-sys.path.insert(0, str(pathlib.Path(__file__).resolve().parent))
 
-from dumps import HEADER_LENGTH, LISTS, RECORDS, Bad, Dump, little, order_of, records_of  # noqa: E402
-from externals import ExternalsFault, parse_externals  # noqa: E402
-from folders import MapFault, parse_map  # noqa: E402
+from dumps import RECORDS, Bad, Dump, addresses_of, little, order_of, records_of  # noqa: E402
+from folders import LineFault, parse_externals, parse_map  # noqa: E402
 from any_run import RunNamespace  # noqa: E402
 from loading import Body, Namespace, path_text  # noqa: E402
 from printing import hexadecimal, row_text, term_lines  # noqa: E402
@@ -66,11 +63,7 @@ def text_of(reader):
         terms = reader.read()
     except Refused as fault:
         return [str(fault)]
-
-    def body_of(method):
-        start, end = method.tail
-        return Body(None, reader.code[start:end])
-
+    body_of = lambda method: Body(None, reader.code[slice(*method.tail)])
     return [line for term in terms for line in term_lines(term, body_of, 0)]
 
 
@@ -82,12 +75,8 @@ def each_text(reader):
         yield from lines
 
 
-def table_text(code):
-    return text_of(Reader(code))
-
-
 def cuts_text(code):
-    return [line for length in range(len(code)) for line in [f"{length} bytes:", *table_text(code[:length])]]
+    return [line for length in range(len(code)) for line in [f"{length} bytes:", *text_of(Reader(code[:length]))]]
 
 
 class StepReader(Reader):
@@ -124,12 +113,8 @@ def length_text(code):
 
 
 def entries_text(signature, table):
-    """The addresses that a table lists whose signature is this one."""
-    width = LISTS[signature]
-    if len(table) < HEADER_LENGTH or (len(table) - HEADER_LENGTH) % width:
-        raise Bad("BadRoot")
-    entries = [f"{little(table, at, width):X}" for at in range(HEADER_LENGTH, len(table), width)]
-    return [", ".join(entries) or "none"]
+    """The addresses that a table lists which is read as one of this signature."""
+    return [", ".join(f"{address:X}" for address in addresses_of(table, signature)) or "none"]
 
 
 def record_text(record):
@@ -148,19 +133,9 @@ def madt_text(table):
 
 
 def map_text(names, text):
-    try:
-        addresses = parse_map(text, names)
-    except MapFault as fault:
-        return [f"{fault} in line {fault.line}"]
+    addresses = parse_map(text, names)
     given = {name: addresses.get(name.encode()) for name in names}
     return [f"{name} {'none' if address is None else f'{address:X}'}" for name, address in given.items()]
-
-
-def externals_text(text):
-    try:
-        return [f"{path_text(path)} {count}" for path, count in parse_externals(text)]
-    except ExternalsFault as fault:
-        return [f"{fault} in line {fault.line}"]
 
 
 def or_none(answer):
@@ -174,22 +149,14 @@ def path_or_none(path):
 def declaration_of(words):
     """The name and the kind of a declaration."""
     path, word, *more = words.split()
-    kinds = {
-        "Method": lambda: (word, int(more[0])),
-        "Alias": lambda: ("Alias", path_of(more[0]), False),
-        "OpenAlias": lambda: ("Alias", path_of(more[0]), True),
-    }
-    return name_of(path), kinds.get(word, lambda: (word,))()
+    if word in ("Alias", "OpenAlias"):
+        return name_of(path), ("Alias", path_of(more[0]), word == "OpenAlias")
+    return name_of(path), ("Method", int(more[0])) if word == "Method" else (word,)
 
 
 def kind_text(names, path):
     kind = names.kind(path)
     return or_none(kind and row_text(path, kind))
-
-
-def declared_text(names, path):
-    declared = "declared" if path in names.declarations else "not declared"
-    return [f"{declared}, {'sure' if names.is_sure(path) else 'not sure'}"]
 
 
 def counted(words):
@@ -201,7 +168,7 @@ def counted(words):
 OF_BYTES = {
     "body": lambda words, code: text_of(counted(words)(code)),
     "terms": lambda words, code: list(each_text(counted(words)(code))),
-    "table": lambda _, code: table_text(code),
+    "table": lambda _, code: text_of(Reader(code)),
     "step": lambda words, code: [step_text(code, *map(int, words.split()))],
     "cuts": lambda _, code: cuts_text(code),
     "name": lambda _, code: name_text(code),
@@ -211,13 +178,16 @@ OF_BYTES = {
     "rsdt": lambda _, table: entries_text(b"RSDT", table),
     "madt": lambda _, table: madt_text(table),
     "map": lambda words, text: map_text(words.split(" "), text),
-    "externals": lambda _, text: externals_text(text),
+    "externals": lambda _, text: [f"{path_text(path)} {count}" for path, count in parse_externals(text)],
     "many_rows": lambda words, _: [f"{words} at their places"],
     "many_counted": lambda words, _: [f"{words} found by 1 to 64 comparisons"],
 }
 # To rows of a path, by the namespace; a declared path has a segment at least, and so is found by a comparison.
 OF_PATH = {
-    "declared": declared_text,
+    "declared": lambda names, path: [
+        ("declared, " if path in names.declarations else "not declared, ")
+        + ("sure" if names.is_sure(path) else "not sure")
+    ],
     "scope": lambda names, path: ["a scope" if names.is_sure(path) and names.is_scope(path) else "no scope"],
     "alias": lambda names, path: ["open" if names.alias_of(path)[2] else "not open"],
     "count": lambda names, path: or_none(names.count(path)),
@@ -253,6 +223,8 @@ class Rows:
             return self.act(kind, words, bytes_of(rest)) or []
         except Refused as fault:
             return [str(fault)]
+        except LineFault as fault:
+            return [f"{fault} in line {fault.line}"]
         except Bad as bad:
             return [str(bad) + (f", dump {bad.dump}" if bad.dump is not None else "")]
 

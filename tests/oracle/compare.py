@@ -1,18 +1,17 @@
 #!/usr/bin/env python3
-"""Compares what acpidis prints with an independent reading, over folders that are made up near the grammar and then damaged.
+"""Compares what acpidis prints with an independent reading, over folders that are made up near the grammar and then
+damaged.
 
     python3 tests/oracle/compare.py [--seconds N | --sets N] [--seed N] [--with-externals] [--any-run] [--workers N,N..]
         [--deep] [--mutated] [--read] [FOLDER ..]
 
-Standard output, standard error and the status are compared whole; besides, a run may take 10 seconds of processor time, a
-minute in all, and 2 GB. A FOLDER of dumps is compared as it stands, and then damaged copies of it. The first sets that
-differ are kept, and the status is 1. With --with-externals most made-up sets come with a file for the option --externals,
-and with --any-run with code outside methods and this option, which FOLDERs are run with too. With --deep the terms of a
-third of the made-up sets stand in a scope of 100 to 2,000 segments. With --mutated each set has one to four changes more:
-bits, bytes and names; terms that go, come from elsewhere or move, with the lengths around them repaired; lengths; cuts;
-halves of two tables; headers; files. Checksums are repaired most of the time. With --workers each set is run by each of
-these numbers of workers, in place of the one that was made up. With --read no program is run, and it is only said how the
-sets end. The same seed makes the same sets. ./test compares 500 sets of seed 0, and 500 with --any-run.
+Standard output, standard error and the status are compared whole; besides, a run may take 10 seconds of processor
+time, a minute in all, and 2 GB. A FOLDER of dumps is compared as it stands, and then damaged copies of it. The first
+sets that differ are kept, and the status is 1. With --with-externals most made-up sets come with a file for the
+option --externals, and with --any-run with code outside methods and this option, which FOLDERs are run with too. With
+--deep the terms of a third of the made-up sets stand in a deep scope. With --mutated each set has one to four changes
+more. With --workers each is run by each of these numbers of workers. With --read no program is run, and it is only
+said how the sets end. The same seed makes the same sets.
 """
 
 import argparse
@@ -32,7 +31,6 @@ import threading
 import time
 
 sys.dont_write_bytecode = True
-sys.path.insert(0, str(pathlib.Path(__file__).resolve().parent))
 
 from folders import file_names  # noqa: E402
 from made_sets import SetMaker, Trial  # noqa: E402
@@ -47,15 +45,12 @@ MOST_MEMORY, MEMORY_STOP = 2 << 30, 6 << 30
 MOST_DIFFERENCES, MOST_CHANGES = 5, 4
 
 
-def limit_memory():
-    resource.setrlimit(resource.RLIMIT_AS, (MEMORY_STOP, MEMORY_STOP))
-
-
 def measured_run(program, folder, options):
     """What the program does, and what it takes that is too much."""
+    limit = lambda: resource.setrlimit(resource.RLIMIT_AS, (MEMORY_STOP, MEMORY_STOP))
     with tempfile.TemporaryFile() as out, tempfile.TemporaryFile() as err:
         words = [program, *options.words(), folder]
-        child = subprocess.Popen(words, stdout=out, stderr=err, stdin=subprocess.DEVNULL, preexec_fn=limit_memory)
+        child = subprocess.Popen(words, stdout=out, stderr=err, stdin=subprocess.DEVNULL, preexec_fn=limit)
         stop = threading.Timer(LONGEST_RUN, child.kill)
         stop.start()
         _, status, usage = os.wait4(child.pid, 0)
@@ -179,10 +174,6 @@ def write_trial(room, trial):
     return folder, dataclasses.replace(trial.options, externals=str(room / EXTERNALS))
 
 
-def read_files(folder):
-    return {name: (folder / name).read_bytes() for name in file_names(folder)}
-
-
 def arguments():
     words = argparse.ArgumentParser(description=__doc__, formatter_class=argparse.RawDescriptionHelpFormatter)
     words.add_argument("folders", nargs="*", type=pathlib.Path)
@@ -208,7 +199,7 @@ def main():
     for folder in asked.folders:
         comparison.compare(folder, Options(any_run=asked.any_run))
         comparison.compare(folder, Options(any_run=asked.any_run, check=True))
-    known = [read_files(folder) for folder in asked.folders]
+    known = [{name: (folder / name).read_bytes() for name in file_names(folder)} for folder in asked.folders]
     maker = SetMaker(random.Random(asked.seed), known, asked.with_externals, asked.any_run, asked.deep)
     maker = MutatedMaker(maker) if asked.mutated else maker
     number, until = 0, time.monotonic() + asked.seconds

@@ -1,7 +1,7 @@
 """Dumps of tables after docs/tables.md: which are taken, the order of the definition blocks, and the lines of all dumps."""
 
 import re
-from typing import NamedTuple
+from collections import namedtuple
 
 from printing import file_text, hexadecimal, quoted
 
@@ -38,12 +38,13 @@ class Bad(Exception):
         self.dump = dump
 
 
-class Dump(NamedTuple):
-    """The name of its file, the address at which the table stood, if that is known, and its bytes."""
+# The name of its file, the address at which the table stood, None where that isn't known, and its bytes
+Dump = namedtuple("Dump", "name address data")
 
-    name: str
-    address: int | None
-    data: bytes
+
+def dumps_of(files):
+    """The dumps of files, by their names, without addresses."""
+    return [Dump(name, None, data) for name, data in sorted(files.items())]
 
 
 def little(data, at, width):
@@ -52,9 +53,6 @@ def little(data, at, width):
 
 def sums_to_zero(data):
     return sum(data) % 256 == 0
-
-
-# ---- one dump
 
 
 def table_of(data):
@@ -84,22 +82,12 @@ def root_sums(data):
     return sums_to_zero(data[:20]) and (not is_wide(data) or sums_to_zero(data[:little(data, 20, 4)]))
 
 
-def check_facs(data):
-    if len(data) < 8 or not 8 <= little(data, 4, 4) <= len(data):
-        raise Bad("Short")
-
-
-def addresses_of(table):
-    """The addresses that an XSDT or an RSDT lists."""
-    width = LISTS[table[:4]]
-    if (len(table) - HEADER_LENGTH) % width:
+def addresses_of(table, signature=None):
+    """The addresses that an XSDT or an RSDT lists, by its signature or another one."""
+    width = LISTS[signature or table[:4]]
+    if len(table) < HEADER_LENGTH or (len(table) - HEADER_LENGTH) % width:
         raise Bad("BadRoot")
     return [little(table, at, width) for at in range(HEADER_LENGTH, len(table), width)]
-
-
-def check_fadt(fadt):
-    if len(fadt) < FADT_LENGTH:
-        raise Bad("FadtShort")
 
 
 def records_of(madt):
@@ -123,17 +111,18 @@ def check_dump(data, any_sum):
         if not any_sum and not root_sums(data):
             raise Bad("BadSum")
     elif data.startswith(FACS):
-        check_facs(data)
+        if len(data) < 8 or not 8 <= little(data, 4, 4) <= len(data):
+            raise Bad("Short")
     else:
         table = table_of(data)
         if not any_sum and not sums_to_zero(table):
             raise Bad("BadSum")
-        check_content = {b"FACP": check_fadt, b"APIC": records_of, **dict.fromkeys(LISTS, addresses_of)}.get(table[:4])
-        if check_content:
-            check_content(table)
-
-
-# ---- the order
+        if table.startswith(b"FACP") and len(table) < FADT_LENGTH:
+            raise Bad("FadtShort")
+        if table.startswith(b"APIC"):
+            records_of(table)
+        elif table[:4] in LISTS:
+            addresses_of(table)
 
 
 def order_of(dumps, any_sum):
@@ -153,11 +142,6 @@ def signed(dumps, signature):
     return [index for index, dump in enumerate(dumps) if dump.data.startswith(signature)]
 
 
-def stem_number(name):
-    stem = name.rpartition(".")[0] or name
-    return int(re.search(r"[0-9]*\Z", stem)[0][-9:] or 0)
-
-
 def order_by_names(dumps):
     dsdts = signed(dumps, b"DSDT")
     if not dsdts:
@@ -166,7 +150,10 @@ def order_by_names(dumps):
         raise Bad("TwoDsdts", dsdts[1])
 
     def place(index):
-        return stem_number(dumps[index].name), dumps[index].name.encode(), index
+        """The number at the end of the name without its last part, and the name."""
+        name = dumps[index].name
+        stem = name.rpartition(".")[0] or name
+        return int(re.search(r"[0-9]*\Z", stem)[0][-9:] or 0), name.encode(), index
 
     return dsdts + sorted(signed(dumps, b"SSDT"), key=place)
 
@@ -208,9 +195,6 @@ def list_of(root):
 def dsdt_address(fadt):
     wide = little(fadt, 140, 8) if len(fadt) >= 148 else 0
     return wide or little(fadt, 40, 4)
-
-
-# ---- the lines
 
 
 def dump_lines(dumps):

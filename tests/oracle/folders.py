@@ -1,4 +1,5 @@
-"""The dumps of a folder after docs/tables.md: its regular files, and the addresses that its map gives them."""
+"""The dumps of a folder after docs/tables.md: its regular files, and the addresses that its map gives them. And the
+file that `--externals` names: how many arguments paths take that no table says anything of."""
 
 import os
 import re
@@ -7,15 +8,16 @@ from dumps import MOST_BYTES, MOST_DUMPS, Dump
 from printing import file_text
 
 MAP_NAME = "tables.map"
-MOST_MAP_BYTES = 16_777_216
+SEGMENT = rb"[A-Z_][A-Z0-9_]{3}"
+COUNT = re.compile(rb"\\(%s(?:\.%s)*) ([0-7])" % (SEGMENT, SEGMENT))
 
 
 class Unreadable(Exception):
     """Why the dumps of a folder can't be read, as the program says it."""
 
 
-class MapFault(Exception):
-    """Why a map is refused, and the number of its line, counted from 1."""
+class LineFault(Exception):
+    """Why a map or a file of counts is refused, and the number of its line, counted from 1."""
 
     def __init__(self, fault, line):
         super().__init__(fault)
@@ -28,9 +30,19 @@ def read_folder(folder):
     dumps = [name for name in names if name != MAP_NAME]
     if len(dumps) > MOST_DUMPS:
         raise Unreadable("TooManyTables")
-    contents = [read_file(folder, name, MOST_BYTES) for name in dumps]
-    addresses = read_map(folder, dumps) if MAP_NAME in names else {}
+    place = os.fsencode(folder)
+    contents = [read_file(os.path.join(place, name.encode()), name) for name in dumps]
+    addresses = {}
+    if MAP_NAME in names:
+        text = read_file(os.path.join(place, MAP_NAME.encode()), MAP_NAME)
+        addresses = read_lines(text, MAP_NAME, MAP_NAME, lambda: parse_map(text, dumps))
     return [Dump(name, addresses.get(name.encode()), data) for name, data in zip(dumps, contents)]
+
+
+def read_externals(file):
+    """The paths in a file with their counts, in the order of its lines."""
+    text = read_file(file, file)
+    return read_lines(text, file, "externals", lambda: parse_externals(text))
 
 
 def file_names(folder):
@@ -43,45 +55,52 @@ def file_names(folder):
     return sorted((name for name, is_file in names if is_file), key=str.encode)
 
 
-def read_file(folder, name, most):
-    try:
-        return read_bytes(os.path.join(os.fsencode(folder), name.encode()), most)
-    except OSError as error:
-        raise unreadable_file(name) from error
-
-
-def read_bytes(path, most):
+def read_file(path, name):
     """The first bytes of a file, one more than it may have."""
-    with open(path, "rb") as file:
-        return file.read(most + 1)
-
-
-def unreadable_file(name):
-    return Unreadable(f"cannot read {file_text(name)}")
-
-
-def read_map(folder, names):
-    text = read_file(folder, MAP_NAME, MOST_MAP_BYTES)
-    if len(text) > MOST_MAP_BYTES:
-        raise unreadable_file(MAP_NAME)
     try:
-        return parse_map(text, names)
-    except MapFault as fault:
-        raise Unreadable(f"{MAP_NAME} line {fault.line}: {fault}") from fault
+        with open(path, "rb") as file:
+            return file.read(MOST_BYTES + 1)
+    except OSError as error:
+        raise Unreadable(f"cannot read {file_text(name)}") from error
+
+
+def read_lines(text, name, what, parse):
+    """What is parsed of the text of a file, which may not be too long."""
+    if len(text) > MOST_BYTES:
+        raise Unreadable(f"cannot read {file_text(name)}")
+    try:
+        return parse()
+    except LineFault as fault:
+        raise Unreadable(f"{what} line {fault.line}: {fault}") from fault
+
+
+def lines_of(text):
+    """The lines of a text with their numbers. The last may end without a newline."""
+    lines = text.split(b"\n")
+    return enumerate(lines if lines[-1] else lines[:-1], 1)
 
 
 def parse_map(text, names):
     """The addresses in a map, by the bytes of the names of files."""
     known, addresses = {name.encode() for name in names}, {}
-    lines = text.split(b"\n")
-    for number, line in enumerate(lines if lines[-1] else lines[:-1], 1):
+    for number, line in lines_of(text):
         form = re.fullmatch(rb"([0-9a-fA-F]{16}) (.*)", line, re.DOTALL)
         if not form:
-            raise MapFault("BadLine", number)
+            raise LineFault("BadLine", number)
         address, name = int(form[1], 16), form[2]
         if not name or name not in known:
-            raise MapFault("NoSuchFile", number)
+            raise LineFault("NoSuchFile", number)
         if name in addresses or address in addresses.values():
-            raise MapFault("Again", number)
+            raise LineFault("Again", number)
         addresses[name] = address
     return addresses
+
+
+def parse_externals(text):
+    found = []
+    for number, line in lines_of(text):
+        form = COUNT.fullmatch(line)
+        if not form:
+            raise LineFault("BadLine", number)
+        found.append((tuple(form[1].decode().split(".")), int(form[2])))
+    return found

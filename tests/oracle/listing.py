@@ -8,11 +8,9 @@ Each OPTION is one of acpidis.
 
 import argparse
 import dataclasses
-import pathlib
 import sys
 
 sys.dont_write_bytecode = True
-sys.path.insert(0, str(pathlib.Path(__file__).resolve().parent))
 
 from running import Options, option_of, run_folder  # noqa: E402
 

@@ -1,5 +1,6 @@
 """The namespace of several tables after docs/names.md, and the bodies of their methods."""
 
+from collections import namedtuple
 from dataclasses import dataclass
 
 from reading import ALIAS, EXTERNAL, FIELD_LISTS, IF, KINDS, METHOD, SCOPE, SCOPES, Named, Op, Reader, Refused
@@ -27,14 +28,8 @@ def path_text(path):
     return "\\" + ".".join(path)
 
 
-@dataclass
-class Method:
-    """Where the body of a method stands: its table, and the offsets of its first byte and behind its last."""
-
-    path: tuple
-    table: int
-    start: int
-    end: int
+# Where the body of a method stands: its table, and the offsets of its first byte and behind its last
+Method = namedtuple("Method", "path table start end")
 
 
 @dataclass

@@ -27,11 +27,6 @@ BOUNDS, WIDEST = (64, 1 << 12, 1 << 20, 1 << 28), 4
 ARGUMENT_COUNTS = [0, 0, 0, 1, 1, 2, 2, 3, 7]
 
 
-def predefined_counts():
-    """How many arguments the predefined paths take."""
-    return {path: kind[1] if kind[0] == "Method" else 0 for path, kind in PREDEFINED.items()}
-
-
 def prefix_of(name):
     return b"\\" if name.root else b"^" * name.ups
 
@@ -73,13 +68,12 @@ class Maker:
         self.strange_terms = chance.choices([0, 0.01, 0.1], [85, 10, 5])[0]
         self.strange_calls = chance.choices([0, 0.02, 0.2], [70, 20, 10])[0]
         self.scope, self.opened, self.fresh_count = (), (), 0
-        self.known, self.locals = predefined_counts(), []
+        self.known = {path: kind[1] if kind[0] == "Method" else 0 for path, kind in PREDEFINED.items()}
+        self.locals = []
         self.methods = {(self.fresh_segment(),): chance.choice(ARGUMENT_COUNTS) for _ in range(4)}
-        if gives:
-            self.methods |= {self.deep_path(): chance.choice(ARGUMENT_COUNTS) for _ in range(3)}
-
-    def deep_path(self):
-        return (*self.chance.choice(((), ("_SB_",), ("_GPE",), (self.fresh_segment(),))), self.fresh_segment())
+        for _ in range(3 if gives else 0):
+            above = chance.choice(((), ("_SB_",), ("_GPE",), (self.fresh_segment(),)))
+            self.methods[(*above, self.fresh_segment())] = chance.choice(ARGUMENT_COUNTS)
 
     def tables(self):
         """The AML of the tables of the set, the DSDT's first."""
@@ -275,12 +269,10 @@ class Maker:
         return b"".join(self.part(kind, opcode, depth, inside) for kind in ROWS[opcode].parts)
 
     def part(self, kind, opcode, depth, inside):
-        if kind == "T":
-            return b"\0" if opcode == IF and inside == "table" else self.value(depth, inside)
-        if kind == "S":
-            return self.target(depth, inside)
-        if kind == "D":
-            return self.data(depth, inside)
+        if kind == "T" and opcode == IF and inside == "table":
+            return b"\0"
+        if kind in "TSD":
+            return {"T": self.value, "S": self.target, "D": self.data}[kind](depth, inside)
         if kind == "N":
             is_new = opcode in DECLARATIONS and opcode not in FIELD_LISTS
             return self.new_name(inside) if is_new else self.any_name()
@@ -289,17 +281,14 @@ class Maker:
         return self.chance.randbytes(int(kind))
 
     def tail(self, kind, opcode, depth, inside):
+        if kind in ("e", "f"):
+            make, most = (self.data, 4) if kind == "e" else (self.unit, 5)
+            return b"".join(make(depth, inside) for _ in range(self.chance.randrange(most)))
         if kind == "t":
             return self.block(opcode, depth, inside)
         if kind == "b":
             return self.body(self.opened)
-        if kind == "y":
-            return self.bytes(4)
-        if kind == "e":
-            return b"".join(self.data(depth, inside) for _ in range(self.chance.randrange(4)))
-        if kind == "f":
-            return b"".join(self.unit(depth, inside) for _ in range(self.chance.randrange(5)))
-        return b""
+        return self.bytes(4) if kind == "y" else b""
 
     def block(self, opcode, depth, inside):
         if opcode not in SCOPES:
@@ -310,18 +299,12 @@ class Maker:
         return code
 
     def unit(self, depth, inside):
-        kind = self.chance.randrange(8)
-        if kind == 0:
-            return b"\0" + self.bits()
-        if kind == 1:
-            return b"\1" + self.chance.randbytes(2)
-        if kind == 2:
-            return b"\3" + self.chance.randbytes(3)
-        if kind == 3:
-            return b"\2" + self.any_name()
-        if kind == 4:
-            return b"\2" + self.operation(BUFFER, depth, inside)
-        return self.new_unit(inside) + self.bits()
+        makers = {
+            0: lambda: b"\0" + self.bits(), 1: lambda: b"\1" + self.chance.randbytes(2),
+            2: lambda: b"\3" + self.chance.randbytes(3), 3: lambda: b"\2" + self.any_name(),
+            4: lambda: b"\2" + self.operation(BUFFER, depth, inside),
+        }
+        return makers.get(self.chance.randrange(8), lambda: self.new_unit(inside) + self.bits())()
 
     def new_unit(self, inside):
         seg = self.chance.choice(STRANGE_SEGMENTS) if self.is_strange(inside) else self.fresh_segment()

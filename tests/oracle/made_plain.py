@@ -12,7 +12,7 @@ TARGETED = (0x70, 0x71, 0x75, 0x76, 0x87, 0x8E, 0x9D, 0x86, 0x5B20, 0x5B23, 0x5B
 # What ASL has as parts of other terms alone.
 PARTS = {0x00, 0x01, 0xFF, 0x0A, 0x0B, 0x0C, 0x0D, 0x0E, 0x5B30, 0x5B31, 0x11, 0x12, 0x13, *range(0x60, 0x6F)}
 STATEMENTS = [opcode for opcode in IN_BODIES if opcode not in PARTS]
-DEBUG, LOAD, REF_OF, COND_REF_OF, DEREF_OF, COPY_OBJECT, NAME_OP = 0x5B31, 0x5B20, 0x71, 0x5B12, 0x83, 0x9D, 0x08
+DEBUG, LOAD, COND_REF_OF, DEREF_OF, NAME_OP = 0x5B31, 0x5B20, 0x5B12, 0x83, 0x08
 USED = [opcode for opcode in VALUES if opcode not in (DEBUG, LOAD)]
 PLAIN_USED = [opcode for opcode in PLAIN_VALUES if opcode != DEBUG]
 # What DerefOf takes beside a name: locals and arguments, Index, RefOf, Store.
@@ -43,8 +43,6 @@ class PlainMaker(Maker):
     def late_method(self, path, count):
         return self.method(self.spelled(self.root_name(path)), path, count)
 
-    # ---- shortest forms
-
     def length(self, size):
         return package_length(size, 1)
 
@@ -62,8 +60,6 @@ class PlainMaker(Maker):
     def scope_name(self):
         name = super().scope_name()
         return self.spelled(self.root_name(self.opened)) if name == b"\0" else name
-
-    # ---- terms
 
     def statements(self, depth):
         code = b""

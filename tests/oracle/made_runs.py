@@ -2,6 +2,8 @@
 with arguments, Scopes of what nothing declares and of what is no scope, declarations below what only may stand, inner
 names that only may stand, Aliases of what may be another Alias, and counts that differ."""
 
+import contextlib
+
 from any_run import RunNamespace
 from made_code import ARGUMENT_COUNTS, IN_DEEP_TABLES, IN_TABLES, MOST_DEPTH, MOST_SEGMENTS, Maker
 from reading import ALIAS, ELSE, EXTERNAL, IF, KINDS, METHOD, MOST_LEVELS, RETURN, ROWS, SCOPES, Name
@@ -96,17 +98,19 @@ class RunMaker(Maker):
         content = b"\0" + b"".join(self.operation(EXTERNAL, depth, "table") for _ in range(self.chance.randrange(3)))
         return self.packed(b"\xA0", content)
 
+    @contextlib.contextmanager
+    def at(self, scope, is_sure):
+        """Code in a scope, where what it declares may be as sure as what stands around it."""
+        outside = self.scope, self.is_sure
+        self.scope, self.is_sure = scope, self.is_sure and is_sure
+        yield
+        self.scope, self.is_sure = outside
+
     def block(self, opcode, depth, inside):
         if inside != "table":
             return super().block(opcode, depth, inside)
-        outside = self.scope, self.is_sure
-        if opcode in SCOPES:
-            self.scope, self.is_sure = self.opened, self.is_sure and self.opened_is_sure
-        else:
-            self.is_sure = False
-        code = self.terms(depth, "table")
-        self.scope, self.is_sure = outside
-        return code
+        with self.at(*((self.opened, self.opened_is_sure) if opcode in SCOPES else (self.scope, False))):
+            return self.terms(depth, "table")
 
     def parts(self, opcode, depth, inside):
         self.opcode = opcode
@@ -157,13 +161,10 @@ class RunMaker(Maker):
         if self.opcode == EXTERNAL:
             self.space.add_external(self.opened, count)
         else:
-            self.space.declare_so(self.scope, name, self.declared_kind(count), is_sure)
+            kind = ("Method", count) if self.opcode == METHOD else (KINDS.get(self.opcode, "Name"),)
+            kind = self.space.alias_of(self.alias_source) if self.opcode == ALIAS else kind
+            self.space.declare_so(self.scope, name, kind, is_sure)
         return self.spelled(name)
-
-    def declared_kind(self, count):
-        if self.opcode == METHOD:
-            return "Method", count
-        return self.space.alias_of(self.alias_source) if self.opcode == ALIAS else (KINDS.get(self.opcode, "Name"),)
 
     def alias_names(self, inside):
         if inside != "table":
@@ -225,20 +226,10 @@ class RunMaker(Maker):
 
     # ---- scenes
 
-    def within(self, scope, is_sure, declare, *parts):
-        """A declaration in a scope, which may be as sure as what stands around it."""
-        outside = self.scope, self.is_sure
-        self.scope, self.is_sure = scope, self.is_sure and is_sure
-        code = declare(*parts)
-        self.scope, self.is_sure = outside
-        return code
-
     def maybe(self, declare, *parts):
         """A declaration in an If."""
-        return self.packed(b"\xA0", b"\1" + self.within(self.scope, False, declare, *parts))
-
-    def maybe_method(self, name, count):
-        return self.maybe(self.sure_method, name, count)
+        with self.at(self.scope, False):
+            return self.packed(b"\xA0", b"\1" + declare(*parts))
 
     def sure_method(self, name, count):
         """A method that is as sure as the code around it."""
@@ -249,14 +240,12 @@ class RunMaker(Maker):
         self.opcode, self.alias_source = ALIAS, self.space.find(self.scope, source) or ()
         return b"\x06" + self.spelled(source) + self.declared_name(name, self.known.get(self.alias_source, 0))
 
-    def device(self, name, declare, *parts):
-        """A Device with a declaration inside."""
+    def device(self, name, declare=bytes, *parts):
+        """A Device, with a declaration inside."""
         self.opcode = DEVICE
         code = self.declared_name(name, 0)
-        return self.packed(b"\x5B\x82", code + self.within(self.opened, self.opened_is_sure, declare, *parts))
-
-    def bare_device(self, name):
-        return self.device(name, bytes)
+        with self.at(self.opened, self.opened_is_sure):
+            return self.packed(b"\x5B\x82", code + declare(*parts))
 
     def fresh(self):
         return Name(False, 0, [self.fresh_segment()])
@@ -275,24 +264,24 @@ class RunMaker(Maker):
         """A Device in which a method of an outer name only may stand, and what uses that name there."""
         outer = self.chance.choice([("_OSI",), *(path for path, count in self.known.items() if path and count)])
         name, count = Name(False, 0, [outer[-1]]), self.known[outer]
-        other, self.opcode = self.same_or_other(count), DEVICE
-        device, outside = self.declared_name(self.fresh_name("table"), 0), (self.scope, self.is_sure)
-        self.scope, self.is_sure = self.opened, self.is_sure and self.opened_is_sure
-        code = self.maybe_method(name, other)
+        other = self.same_or_other(count)
+        return self.device(self.fresh_name("table"), self.shadowed, depth, outer, name, (count, other))
+
+    def shadowed(self, depth, outer, name, counts):
+        count, other = counts
+        code = self.maybe(self.sure_method, name, other)
         if self.gives and self.happens(0.5):
             self.given |= {outer: count, name.placed(self.scope): other}
         local = b"\x08" + self.spelled(self.root_name(outer)) + b"\0"
         code += self.caller(depth, name, (count, other, 0), local if self.happens(0.2) else b"")
-        if self.happens(0.06):
-            code += self.packed(b"\x10", self.spelled(name))
-        self.scope, self.is_sure = outside
-        return self.packed(b"\x5B\x82", device + code)
+        return code + self.packed(b"\x10", self.spelled(name)) if self.happens(0.06) else code
 
     def aliased(self, depth):
         """Two branches with a method of one path, an Alias of it, and what calls this one."""
         name, count = self.fresh_name("table"), self.chance.choice(ARGUMENT_COUNTS)
         other = self.same_or_other(count)
-        code = self.maybe_method(name, count) + self.packed(b"\xA1", self.maybe_method(name, other))
+        code = self.maybe(self.sure_method, name, count)
+        code += self.packed(b"\xA1", self.maybe(self.sure_method, name, other))
         alias = self.fresh()
         code += self.alias(name, alias)
         return code + self.caller(depth, alias, (count, other))
@@ -312,7 +301,7 @@ class RunMaker(Maker):
         for method in methods:
             how = self.chance.random()
             code += self.maybe(self.alias, method, source) if how < 0.7 else b""
-            code += self.maybe_method(source, counts[2]) if how > 0.6 else b""
+            code += self.maybe(self.sure_method, source, counts[2]) if how > 0.6 else b""
         if self.happens(0.2) or not self.space.kinds_of(source.placed(self.scope)):
             code += self.alias(methods[0], source)
         for one, other in zip([source, *aliases], aliases):
@@ -324,7 +313,7 @@ class RunMaker(Maker):
     def missed_alias(self, depth):
         """An Alias of a method that only may stand, a method of its name, and what calls that."""
         source, name, (count, other) = self.fresh(), self.fresh(), self.two_counts()
-        code = self.maybe_method(source, count) + self.alias(source, name)
+        code = self.maybe(self.sure_method, source, count) + self.alias(source, name)
         return code + self.sure_method(name, other) + self.caller(depth, name, (count, other))
 
     def missed_parent(self, depth):
@@ -333,7 +322,7 @@ class RunMaker(Maker):
         device, inner, outer, (count, other) = self.fresh(), self.fresh(), self.fresh(), self.two_counts()
         below, path = Name(False, 0, [*device.segs, *inner.segs]), (*device.placed(self.scope), *inner.segs)
         is_device = self.happens(0.3)
-        code = self.maybe(self.bare_device, device) if self.happens(0.7) else b""
+        code = self.maybe(self.device, device) if self.happens(0.7) else b""
         if is_device:
             code += self.device(below, self.sure_method, self.root_name(outer.segs), count)
         else:
@@ -344,30 +333,28 @@ class RunMaker(Maker):
     def missed_scope(self, depth):
         """What may be no scope, a Scope of it with a method, another method of the same path, and what calls it."""
         opened, inner, (count, other) = self.fresh(), self.fresh(), self.two_counts()
-        code = self.maybe(self.bare_device, opened) if self.happens(0.5) else b""
+        code = self.maybe(self.device, opened) if self.happens(0.5) else b""
         if self.happens(0.5):
             code += self.sure_method(opened, 0)
         else:
             device = self.fresh()
-            code += self.bare_device(device) + self.alias(device, opened)
+            code += self.device(device) + self.alias(device, opened)
         path, scope = opened.placed(self.scope), self.spelled(opened)
-        is_sure = self.space.is_sure(path) and self.space.is_scope(path)
-        code += self.packed(b"\x10", scope + self.within(path, is_sure, self.sure_method, inner, count))
+        with self.at(path, self.space.is_sure(path) and self.space.is_scope(path)):
+            code += self.packed(b"\x10", scope + self.sure_method(inner, count))
         code += self.sure_method(Name(False, 0, [*opened.segs, *inner.segs]), other)
         return code + self.caller(depth, self.root_name((*path, *inner.segs)), (count, other))
 
     def predefined(self, depth):
         """A method at a predefined path that only may stand, and what calls it."""
         name, count = Name(True, 0, ["_OSI"]), self.same_or_other(1)
-        return self.maybe_method(name, count) + self.caller(depth, name, (1, count))
+        return self.maybe(self.sure_method, name, count) + self.caller(depth, name, (1, count))
 
     def imported(self, depth):
         """A Scope of what only an External names."""
         self.opcode = EXTERNAL
         name = self.fresh_name("table")
         external = b"\x15" + self.declared_name(name, 0) + b"\6\0"
-        outside = self.scope, self.is_sure
-        self.scope, self.is_sure = self.opened, False
-        scope = self.spelled(self.root_name(self.scope)) + self.terms(depth + 1, "table")
-        self.scope, self.is_sure = outside
+        with self.at(self.opened, False):
+            scope = self.spelled(self.root_name(self.scope)) + self.terms(depth + 1, "table")
         return external + self.packed(b"\x10", scope)

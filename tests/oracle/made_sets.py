@@ -2,8 +2,7 @@
 
 from dataclasses import dataclass
 
-from dumps import FACS, RECORDS, ROOT
-from externals import MOST_BYTES as MOST_EXTERNALS_BYTES
+from dumps import FACS, LISTS, MOST_BYTES, RECORDS, ROOT
 from folders import MAP_NAME
 from loading import path_text
 from made_code import ARGUMENT_COUNTS, STRANGE_SEGMENTS, Maker, damaged
@@ -19,8 +18,8 @@ BAD_LINES = [
     "\\AAAA 2 ", "\\AAAA 2\r", "\\AAAA\t1", "\\AAA 2", "\\aaaa 1", "\\1AAA 1", "\\AAAA. 1", "\\.AAAA 1",
     "\\AAAA.BBB 1", "\\AAAABBBB 1", "\\AAAA..BBBB 1",
 ]
-# The files of the tables that list others, and how many bytes an address has in them.
-LISTS = {"xsdt.dat": 8, "rsdt.dat": 4}
+# The files of the tables that list others
+LIST_FILES = ["xsdt.dat", "rsdt.dat"]
 
 
 @dataclass
@@ -31,9 +30,6 @@ class Trial:
     files: dict
     options: Options
     externals: bytes | None = None
-
-
-# ---- tables
 
 
 def sealed(data):
@@ -62,9 +58,10 @@ def root(chance, revision, rsdt, xsdt):
 
 def table_list(chance, name, entries):
     """The XSDT or RSDT of this name."""
-    width = LISTS[name]
+    signature = name[:4].upper().encode()
+    width = LISTS[signature]
     content = b"".join((entry % (1 << 8 * width)).to_bytes(width, "little") for entry in entries)
-    return table(chance, name[:4].upper().encode(), content)
+    return table(chance, signature, content)
 
 
 def fadt(chance, dsdt):
@@ -105,14 +102,6 @@ def other(chance):
     return table(chance, chance.choice(SIGNATURES), chance.randbytes(chance.randrange(40)))
 
 
-def with_wrong_sum(chance, data):
-    at = 8 if data.startswith(ROOT) else 9
-    return data[:at] + bytes([data[at] ^ chance.randrange(1, 256)]) + data[at + 1:]
-
-
-# ---- folders
-
-
 class SetMaker:
     """Makes one trial after another: of made-up tables, or of the known folders, given by the contents of their files.
     Where `gives` is set, most of them have a file for `--externals`; where `any_run` is, code outside methods and its option;
@@ -142,7 +131,9 @@ class SetMaker:
         summed = [name for name, data in files.items() if len(data) > 9 and name != MAP_NAME]
         if summed and self.happens(0.06):
             name = self.chance.choice(summed)
-            return Trial({**files, name: with_wrong_sum(self.chance, files[name])}, self.options(False))
+            data = bytearray(files[name])
+            data[8 if data.startswith(ROOT) else 9] ^= self.chance.randrange(1, 256)
+            return Trial({**files, name: bytes(data)}, self.options(False))
         return Trial(files, self.options(True))
 
     def options(self, is_summed):
@@ -170,8 +161,8 @@ class SetMaker:
         self.given, self.paths = maker.given, [path for path in maker.known if path]
         signatures = [b"DSDT"] + [b"SSDT"] * (len(codes) - 1)
         names = self.block_names(len(codes))
-        files = {name: table(self.chance, signature, code) for name, signature, code in zip(names, signatures, codes)}
-        files |= self.extra_files()
+        made = (table(self.chance, signature, code) for signature, code in zip(signatures, codes))
+        files = dict(zip(names, made)) | self.extra_files()
         if self.happens(0.3):
             files = self.chained(files, names)
         elif self.happens(0.1):
@@ -190,7 +181,7 @@ class SetMaker:
             lines.insert(chance.randrange(len(lines) + 1), chance.choice(BAD_LINES))
         text = "".join(line + "\n" for line in lines).encode()
         if self.happens(0.003):
-            return b"\\AAAA 1\n".ljust(MOST_EXTERNALS_BYTES + chance.choice((0, 1)), b"\n")
+            return b"\\AAAA 1\n".ljust(MOST_BYTES + chance.choice((0, 1)), b"\n")
         if self.happens(0.04):
             return damaged(chance, text)
         return text[:-1] if self.happens(0.2) else text
@@ -206,15 +197,14 @@ class SetMaker:
         return tuple(segs)
 
     def block_names(self, count):
-        if self.happens(0.8):
-            return ["dsdt.dat", *(f"ssdt{number}.dat" for number in range(1, count))]
-        return self.chance.sample(ODD_NAMES, count)
+        names = ["dsdt.dat", *(f"ssdt{number}.dat" for number in range(1, count))]
+        return names if self.happens(0.8) else self.chance.sample(ODD_NAMES, count)
 
     def extra_files(self):
         chance = self.chance
         makers = {
             "rsdp.dat": lambda: root(chance, chance.choice((0, 2)), chance.randrange(1 << 32), chance.randrange(1 << 64)),
-            **{name: lambda name=name: self.stray_list(name) for name in LISTS},
+            **{name: lambda name=name: self.stray_list(name) for name in LIST_FILES},
             "facp.dat": lambda: fadt(chance, chance.randrange(1 << 32)),
             "apic.dat": lambda: madt(chance),
             "facs.dat": lambda: facs(chance),
@@ -232,7 +222,7 @@ class SetMaker:
     def chained(self, files, blocks):
         """The files with the tables that lead to the blocks, and a map."""
         chance = self.chance
-        lists = chance.choice((["xsdt.dat"], ["rsdt.dat"], ["xsdt.dat", "rsdt.dat"]))
+        lists = chance.choice((LIST_FILES[:1], LIST_FILES[1:], LIST_FILES))
         names = list(dict.fromkeys([*files, "rsdp.dat", *lists, "facp.dat"]))
         addresses = {name: page << 12 for name, page in zip(names, chance.sample(range(1, 1 << 20), len(names)))}
         if self.happens(0.08):

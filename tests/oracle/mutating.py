@@ -2,6 +2,7 @@
 
 import functools
 import re
+from collections import namedtuple
 from dataclasses import dataclass, field
 from typing import NamedTuple
 
@@ -14,9 +15,7 @@ SEGMENT = re.compile(rb"[A-Z_][A-Z0-9_]{3}")
 OPCODES = [bytes([opcode]) if opcode < 256 else opcode.to_bytes(2, "big") for opcode in ROWS]
 
 
-class Span(NamedTuple):
-    start: int
-    end: int
+Span = namedtuple("Span", "start end")
 
 
 class Package(NamedTuple):
@@ -125,8 +124,9 @@ class Mutator:
 
     def __init__(self, chance, others):
         self.chance, self.others = chance, others
+        replace = lambda code, layout: replaced(code, layout, self.span(layout), chance.choice(others or [b"\xa3"]))
         self.ways = [
-            self.flip, self.damage, self.cut, self.rename, self.change_term, self.move_term, self.replace_term, self.wrap,
+            self.flip, self.damage, self.cut, self.rename, self.change_term, self.move_term, replace, self.wrap,
             self.change_opcode, self.change_flags, self.change_length, self.stretch_all,
         ]
 
@@ -142,8 +142,6 @@ class Mutator:
         """The empty span before or behind a term."""
         at = self.chance.choice(self.span(layout))
         return Span(at, at)
-
-    # ---- bytes
 
     def flip(self, code, layout):
         start, end = self.span(layout)
@@ -168,8 +166,6 @@ class Mutator:
         to, source = self.chance.sample(places, 2)
         return code[:to] + code[source:source + 4] + code[to + 4:]
 
-    # ---- terms
-
     def change_term(self, code, layout):
         """A term is gone, stands there again and again, or is another one of the table."""
         start, end = self.span(layout)
@@ -186,9 +182,6 @@ class Mutator:
         likely = bytes(self.chance.choice(LIKELY_BYTES) for _ in range(self.chance.choice((1, 1, 2, 5))))
         new = self.chance.choice((code[start:end], self.chance.choice(self.others or [b"\xa3"]), likely))
         return replaced(code, layout, self.gap(layout), new)
-
-    def replace_term(self, code, layout):
-        return replaced(code, layout, self.span(layout), self.chance.choice(self.others or [b"\xa3"]))
 
     def wrap(self, code, layout):
         """A term within Ifs, or within LNots."""
@@ -215,8 +208,6 @@ class Mutator:
         name, further = self.chance.choice(methods + externals)
         at = name_end(code, name) + further
         return code[:at] + bytes([self.chance.choice((0, 1, 2, 7, self.chance.randrange(256)))]) + code[at + 1:]
-
-    # ---- package lengths
 
     def change_length(self, code, layout):
         """One package length a bit more or less, or any; or with more bytes than it needs."""

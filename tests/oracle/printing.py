@@ -25,9 +25,6 @@ def hexadecimal(data):
     return (f"{byte:02X}" for byte in data)
 
 
-# ---- terms within a line
-
-
 def inline(part):
     if isinstance(part, Nothing):
         return ""
@@ -61,9 +58,6 @@ def unit_text(unit):
     if kind == "connection":
         return f"Connection ({inline(rest[0])})"
     return f"{UNIT_WORDS[kind]} ({', '.join(f'0x{byte:02X}' for byte in rest)})"
-
-
-# ---- lines
 
 
 def term_lines(term, body_of, level):

@@ -1,12 +1,11 @@
 """A whole run: what the program prints of some dumps, or of a folder, and its status. After docs/listing.md."""
 
+from collections import namedtuple
 from dataclasses import dataclass, field, fields
-from typing import NamedTuple
 
 import any_run
 from dumps import Bad, aml_of, dump_lines, order_of
-from externals import read_externals
-from folders import Unreadable, read_folder
+from folders import Unreadable, read_externals, read_folder
 from loading import Unloadable, load, path_text
 from printing import block_lines, file_text, namespace_lines
 
@@ -50,12 +49,8 @@ def option_of(name):
     return "--" + name.replace("_", "-")
 
 
-class Outcome(NamedTuple):
-    """The status of a run, and what it writes to standard output and to standard error."""
-
-    status: int | None
-    out: str
-    err: str
+# The status of a run, None where it has none, and what it writes to standard output and to standard error
+Outcome = namedtuple("Outcome", "status out err")
 
 
 def text_of(lines):
@@ -90,7 +85,10 @@ def run(dumps, options, given=()):
         return refused_dump(dumps, None if fault.table is None else order[fault.table], fault)
     bodies = loaded.bodies(options.unknown_zero)
     names = [dumps[index].name for index in order]
-    lines = check_lines(names, loaded, bodies) if options.check else listing_lines(dumps, names, loaded, bodies)
+    if options.check:
+        lines = check_lines(names, loaded, bodies)
+    else:
+        lines = [*dump_lines(dumps), *namespace_lines(loaded.space), *block_lines(names, loaded, bodies)]
     raw = [body for body in bodies if body.fault]
     errors = (f"acpidis: body {path_text(body.method.path)}: {body.fault}" for body in raw)
     return Outcome(RAW if raw else DONE, text_of(lines), text_of(errors))
@@ -98,12 +96,6 @@ def run(dumps, options, given=()):
 
 def refused_dump(dumps, index, fault):
     return refused(fault if index is None else f"table {file_text(dumps[index].name)}: {fault}")
-
-
-def listing_lines(dumps, names, loaded, bodies):
-    yield from dump_lines(dumps)
-    yield from namespace_lines(loaded.space)
-    yield from block_lines(names, loaded, bodies)
 
 
 def check_lines(names, loaded, bodies):

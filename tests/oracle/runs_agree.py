@@ -11,12 +11,10 @@ The last line is 'N passed, N failed', by the lists; 150 names are asked of each
 
 import argparse
 import itertools
-import pathlib
 import random
 import sys
 
 sys.dont_write_bytecode = True
-sys.path.insert(0, str(pathlib.Path(__file__).resolve().parent))
 
 from any_run import RunNamespace, agreed  # noqa: E402
 from loading import Namespace, path_text  # noqa: E402
@@ -47,11 +45,6 @@ def is_open_alias(kind):
     return kind[0] == "Alias" and kind[2]
 
 
-def made_counts(chance):
-    """What Externals say of some paths."""
-    return [(chance.choice(PATHS), chance.randrange(3)) for _ in range(chance.choice((0, 0, 1, 3)))]
-
-
 def space_of(declarations, externals):
     space = RunNamespace()
     for path, kind, is_sure in declarations:
@@ -62,8 +55,12 @@ def space_of(declarations, externals):
 
 
 def runs_of(declarations, externals):
-    """The namespaces of all runs."""
-    for kinds in itertools.product(*(kept_as(kind, is_sure) for _, kind, is_sure in declarations)):
+    """The namespaces of all runs: each keeps a declaration as one of some kinds, or leaves an unsure one out."""
+    kept = []
+    for _, kind, is_sure in declarations:
+        aims = [("Alias", path) for path in PATHS] if is_open_alias(kind) else [kind[:2]]
+        kept.append(aims if is_sure else [None, *aims])
+    for kinds in itertools.product(*kept):
         run = Namespace()
         for (path, _, _), kind in zip(declarations, kinds):
             if kind:
@@ -71,12 +68,6 @@ def runs_of(declarations, externals):
         for path, count in externals:
             run.add_external(path, count)
         yield run
-
-
-def kept_as(kind, is_sure):
-    """The kinds that a run may keep a declaration as; None is one that leaves it out."""
-    kinds = [("Alias", path) for path in PATHS] if is_open_alias(kind) else [kind[:2]]
-    return kinds if is_sure else [None, *kinds]
 
 
 def found_count(run, scope, name, local):
@@ -90,17 +81,14 @@ def found_count(run, scope, name, local):
     return None if kind[0] == "Alias" and run.kind(kind[1]) is None else run.count(path)
 
 
-def has_alias(space, scope, name):
-    return any(kind[0] == "Alias" for path in name.candidates(scope) for kind in space.kinds_of(path))
-
-
 def holds(space, runs, scope, name, local):
     """Whether the promise and its converse hold of a name."""
     met = space.counts_met(scope, name, local)
     counts = {found_count(run, scope, name, local) for run in runs} - {None}
     if met and agreed(met) is not None:
         return counts <= {space.arity(scope)(local, name)} == set(met)
-    return not met or has_alias(space, scope, name) or len(counts) > 1
+    kinds = [kind for path in name.candidates(scope) for kind in space.kinds_of(path)]
+    return not met or any(kind[0] == "Alias" for kind in kinds) or len(counts) > 1
 
 
 def fails_of(declarations, externals):
@@ -118,7 +106,10 @@ def main():
     asked = words.parse_args()
     chance, failed = random.Random(asked.seed), 0
     for _ in range(asked.lists):
-        fails = list(fails_of(made_declarations(chance), made_counts(chance)))
+        declarations = made_declarations(chance)
+        # What Externals say of some paths
+        counts = [(chance.choice(PATHS), chance.randrange(3)) for _ in range(chance.choice((0, 0, 1, 3)))]
+        fails = list(fails_of(declarations, counts))
         failed += bool(fails)
         for fail in fails[:1]:
             print(f"FAILED {fail}")

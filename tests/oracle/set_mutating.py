@@ -55,8 +55,6 @@ class SetMutator:
     def any_name(self, files):
         return self.chance.choice(list(files))
 
-    # ---- ways
-
     def file_bytes(self, files):
         name = self.any_name(files)
         return {**files, name: self.mutator.flip(files[name], Layout()) if files[name] else b"\0"}

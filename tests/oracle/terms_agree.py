@@ -3,18 +3,16 @@
 
     python3 tests/oracle/terms_agree.py [--counts N] [--seed N] [--read] [--program PROGRAM]
 
-Each table has a few terms that declare, open and alias a few paths. All runs of them are made here, as an interpreter
-would run them, in a namespace of their own: a declaration is passed over, with all that stands inside, where its path
-is there already, or the path above it isn't; an Alias too where its source isn't; a Scope where its path isn't, or is
-of another kind than a scope's, but one of a Name may run; and of a block the first terms run, up to all, or none.
+All runs of a few terms are made here, as an interpreter would run them: a declaration is passed over, with all that
+stands inside, where its path is there already, or the path above it isn't; an Alias too where its source isn't; a
+Scope where its path isn't, or is of another kind than a scope's, but one of a Name may run; and of a block the first
+terms run, up to all, or none.
 
-Behind the terms stand methods that ask: in the body of each a name, now and then behind a local path, and seven values,
-so that the text tells how many of them the name takes. Where it takes so many by what the tables declare, it has this
-count in each run that finds something for it. Besides, what a run declares stands in the namespace, and what is no
-Maybe there stands in each run.
-
-With --read the independent reading is tried in place of the program. What is counted are the counts of names in runs,
-and whatever else is wrong. The last line is 'N passed, N failed'.
+Behind the terms stand methods that ask: in the body of each a name, now and then behind a local path, and seven
+values, so that the text tells how many of them the name takes. This count it has in each run that finds something for
+it. Besides, what a run declares stands in the namespace, and what is no Maybe there stands in each run. With --read
+the independent reading is tried in place of the program. What is counted are the counts of names in runs. The last
+line is 'N passed, N failed'.
 """
 
 import argparse
@@ -27,7 +25,6 @@ import tempfile
 from typing import NamedTuple
 
 sys.dont_write_bytecode = True
-sys.path.insert(0, str(pathlib.Path(__file__).resolve().parent))
 
 from compare import PROGRAM, run_program, write_trial  # noqa: E402
 from loading import PREDEFINED, path_text  # noqa: E402
@@ -74,12 +71,9 @@ def runs_of(tables):
 def behind_all(runs, scope, terms):
     """How runs may be behind some terms, each of which they meet."""
     for term in terms:
-        runs = distinct(after for run in runs for after in behind(run, scope, term))
+        after = (one for run in runs for one in behind(run, scope, term))
+        runs = list({frozenset(run.items()): run for run in after}.values())
     return runs
-
-
-def distinct(runs):
-    return list({frozenset(run.items()): run for run in runs}.values())
 
 
 def behind(run, scope, term):
@@ -135,9 +129,6 @@ def count_in(run, question):
     return None
 
 
-# ---- questions
-
-
 class Question(NamedTuple):
     """A method that asks what a name takes, with a local path in front, if there is one."""
 
@@ -179,9 +170,6 @@ def questions_of(chance, runs):
     for number in range(QUESTIONS):
         local = chance.choice(paths) if paths and chance.random() < 0.1 else None
         yield Question((*chance.choice(scopes), f"{ASKING}{number:03}"), chance.choice(names), local)
-
-
-# ---- what is told
 
 
 class Wrong(Exception):
@@ -249,9 +237,6 @@ class Comparison:
     def __init__(self, program):
         self.program, self.passed, self.failed, self.wrong, self.silent = program, 0, 0, 0, 0
 
-    def is_over(self, counts):
-        return self.passed + self.failed >= counts or self.wrong >= MOST_WRONG or self.silent >= MOST_SILENT
-
     def compare(self, maker):
         tables = maker.tables()
         runs = runs_of(tables)
@@ -288,7 +273,9 @@ def main():
         sys.exit("the program isn't built: ./acpidis demo builds it")
     comparison = Comparison(None if asked.read else asked.program.resolve())
     maker = TermMaker(random.Random(asked.seed))
-    while not comparison.is_over(asked.counts):
+    while comparison.passed + comparison.failed < asked.counts and comparison.wrong < MOST_WRONG:
+        if comparison.silent >= MOST_SILENT:
+            break
         comparison.compare(maker)
     if comparison.silent >= MOST_SILENT:
         comparison.failed += 1

@@ -58,24 +58,15 @@ def vendor(code):
 def gpio(code):
     """GpioInt or GpioIo, whose pins, path and vendor's bytes follow each other (6.4.3.8.1)."""
     usage, flags, pins, path, more = (word_at(code, at) for at in (5, 7, 14, 17, 19))
-    if (
-        (code[3], pins, more + word_at(code, 21)) != (1, 23, len(code))
-        or usage > 1
-        or not pins < path < more
-        or path - pins & 1
-    ):
+    if (code[3], pins, more + word_at(code, 21)) != (1, 23, len(code)) or usage > 1:
+        raise NoMacro
+    if not pins < path < more or path - pins & 1:
         raise NoMacro
     if code[4] == 1 and not flags & ~0x1B:
         kind, parts = "GpioIo", (SHARES[flags >> 3], PULLS[code[9]], word_at(code, 12), word_at(code, 10), LIMITS[flags & 3])
     elif code[4] == 0 and not flags & ~0x1F and not word_at(code, 10) and path - pins == 2:
-        kind = "GpioInt"
-        parts = (
-            "Edge" if flags & 1 else "Level",
-            LEVELS[flags >> 1 & 3],
-            SHARES[flags >> 3],
-            PULLS[code[9]],
-            word_at(code, 12),
-        )
+        kind, trigger = "GpioInt", "Edge" if flags & 1 else "Level"
+        parts = trigger, LEVELS[flags >> 1 & 3], SHARES[flags >> 3], PULLS[code[9]], word_at(code, 12)
     else:
         raise NoMacro
     numbers = ", ".join(str(word_at(code, at)) for at in range(pins, path, 2))

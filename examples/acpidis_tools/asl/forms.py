@@ -2,31 +2,14 @@
 
 import os
 
-from acpidis_tools import aml
+from acpidis_tools import aml, command
 
 LIMITS = (1 << 6, 1 << 12, 1 << 20, 1 << 28)
-
-
-class Misfit(Exception):
-    """A file isn't the dump of its table in the listing."""
 
 
 def shortest(size):
     """How many bytes iasl takes for the length of so many bytes behind it, or of a unit of so many bits."""
     return next((width for width, limit in enumerate(LIMITS, 1) if size + width < limit), len(LIMITS))
-
-
-class Counts:
-    """How many there are, and how many in another form than the shortest."""
-
-    def __init__(self):
-        self.all = self.long = 0
-
-    def add(self, is_long):
-        self.all, self.long = self.all + 1, self.long + is_long
-
-    def told(self, what):
-        return f"{self.long} of {self.all} {what}" if self.long else ""
 
 
 class Reader(aml.Reader):
@@ -35,18 +18,20 @@ class Reader(aml.Reader):
 
     def __init__(self, code, said, bodies):
         super().__init__("", code, aml.Space(0))
-        self.said, self.bodies, self.lengths, self.names = iter(said), iter(bodies), Counts(), Counts()
+        # Of each length and of each name whether it is in another form than the shortest
+        self.said, self.bodies, self.lengths, self.names = iter(said), iter(bodies), [], []
         self.in_units, self.arguments = False, 0
 
     def length(self, at, end):
         value, width = super().length(at, end)
-        self.lengths.add(width > shortest(value if self.in_units else value - width))
+        self.lengths.append(width > shortest(value if self.in_units else value - width))
         return value, width
 
     def name(self, at, end):
         name, after = super().name(at, end)
         count, text = len(name.segments), str(name)
-        self.names.add(after - at > name.root + name.ups + 4 * count + (1 if count in (0, 2) else 2 * (count > 2)))
+        lead = 1 if count in (0, 2) else 2 * (count > 2)
+        self.names.append(after - at > name.root + name.ups + 4 * count + lead)
         if text:
             said, self.arguments = next(self.said, None) or ("", 0)
             if said != text:
@@ -87,13 +72,14 @@ def told(folder, blocks):
     for block in blocks:
         file = block.table.name()
         path = os.path.join(os.fsencode(folder), file)
-        with open(path, "rb") as opened:
-            dump = opened.read()
+        dump = command.read(path)
         code = dump[36 : int.from_bytes(dump[4:8], "little")]
         reader = Reader(code, block.said, block.bodies)
         at = reader.read()
         if at < len(code) or next(reader.said, None):
-            raise Misfit(f"{os.fsdecode(path)!r} isn't the dump of this listing: they differ at byte {at + 36}")
-        what = ", ".join(filter(None, (reader.lengths.told("lengths"), reader.names.told("names"))))
+            where = f"they differ at byte {at + 36}"
+            command.leave(f"asl: {os.fsdecode(path)!r} isn't the dump of this listing: {where}")
+        forms = {"lengths": reader.lengths, "names": reader.names}
+        what = ", ".join(f"{sum(it)} of {len(it)} {word}" for word, it in forms.items() if any(it))
         if what:
             yield f"{block.table.file[1:-1]}: {what} aren't in their shortest form, which iasl writes"

@@ -1,5 +1,7 @@
 """The names of a definition block: what iasl knows of them, and the Externals that the text needs."""
 
+from collections import namedtuple
+
 from acpidis_tools import aml, running
 from acpidis_tools.asl import language, terms
 
@@ -8,22 +10,10 @@ class TooDeep(Exception):
     """A scope has more segments than this looks through."""
 
 
-class Scope:
-    """A block that is open: the node of its path, and what the body of a method declared so far, where it is in one."""
-
-    __slots__ = ("node", "local")
-
-    def __init__(self, node, local):
-        self.node, self.local = node, local
-
-
-class Use:
-    """A name that is used: where it stands, and how."""
-
-    __slots__ = ("scope", "named", "number")
-
-    def __init__(self, scope, named, number):
-        self.scope, self.named, self.number = scope, named, number
+# A block that is open: the node of its path, and what the body of a method declared so far, where it is in one
+Scope = namedtuple("Scope", "node local")
+# A name that is used: where it stands, and how
+Use = namedtuple("Use", "scope named number")
 
 
 class Names:
@@ -78,8 +68,6 @@ class Names:
         (self.own if scope.local is None else scope.local).add(node)
         return node
 
-    # ---- what iasl knows
-
     def told(self):
         """What iasl makes otherwise, since it knows other names than the tables do: with the numbers of the lines."""
         called = {}
@@ -90,10 +78,15 @@ class Names:
                     yield use.number, f"{use.named.name} as a call, where nothing says that it is a method"
                 elif node in self.externals:
                     called.setdefault(node, use.named.count)
-        for node, lines in self.externals.items():
-            for named, number in lines:
-                if named.is_call:
-                    yield from ((number, what) for what in of_method(named, called.get(node)))
+        for node, named, number in [(node, *it) for node, lines in self.externals.items() for it in lines]:
+            # What iasl makes of the External of a method, which is called with so many arguments, or not at all
+            count = called.get(node)
+            if named.is_call and count is None and named.count == 0:
+                yield number, "an External of a method without arguments that nothing calls"
+            elif named.is_call and count is not None and count != named.count:
+                yield number, "an External of a method that is called with another count"
+            elif named.is_call and count is not None and not named.name.startswith("\\"):
+                yield number, "an External of a method that is called, by a name that isn't from the root"
 
     def known(self, use):
         """The node that iasl finds for a name, and whether it is one of the body's own."""
@@ -115,16 +108,6 @@ class Names:
         if node in self.own:
             return node.most is not None or isinstance(node.kind, int)
         return isinstance(running.PREDEFINED.get(node.path()), int)
-
-
-def of_method(named, called):
-    """What iasl makes of the External of a method, which is called with so many arguments, or not at all."""
-    if called is None and named.count == 0:
-        yield "an External of a method without arguments that nothing calls"
-    elif called is not None and called != named.count:
-        yield "an External of a method that is called with another count"
-    elif called is not None and not named.name.startswith("\\"):
-        yield "an External of a method that is called, by a name that isn't from the root"
 
 
 class Externals:

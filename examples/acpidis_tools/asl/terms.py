@@ -1,25 +1,25 @@
 """A line of terms of a listing as one of ASL."""
 
+import itertools
 import re
+from collections import namedtuple
 
 from acpidis_tools import aml, standard
 from acpidis_tools.asl import language
-from acpidis_tools.listing import SEGMENT
+from acpidis_tools.listing import SEGMENT, WORD
+from acpidis_tools.terms import terms_in
 
 NAME = re.compile(rf"\\|\^+|(?:\\|\^*){SEGMENT}(?:\.{SEGMENT})*")
 NUMBER = re.compile(r"0x(?:[0-9A-F]{2}){1,8}")
-TOKEN = re.compile(
-    r'(?P<word>[\\^A-Za-z0-9_.]+)|(?P<text>"[^"]*")|(?P<bytes>\{(?:[0-9A-F]{2}(?:, [0-9A-F]{2})*)?\})'
-    r"|(?P<mark>, ?|[ (){}])|(?P<other>.)",
-    re.DOTALL,
-)
 ESCAPE = re.compile(r"\\x([0-9A-F]{2})")
 # What ASL has as a part of other terms alone.
 ALONE = re.compile(r'0x[0-9A-F]+|".*"|(Zero|One|Ones|Revision|Debug|Local[0-7]|Arg[0-6])|(Buffer|Package|VarPackage) \(.*')
 STORAGE = re.compile(r"Local[0-7]|Arg[0-6]")
 METHOD = re.compile(rf"Method \(({NAME.pattern}|), ([0-7]), (NotSerialized|Serialized), ([0-9]|1[0-5])\) \{{")
 EXTERNAL = re.compile(rf"External \(({NAME.pattern}|), 0x([0-9A-F]{{2}}), 0x0([0-7])\)")
-CLOSES = {"(": ")", "{": "}"}
+BRACKET = re.compile(r'"[^"]*"|[({})]')
+# So many brackets stand open at most: a listing has 512 levels of terms.
+DEEPEST = 600
 
 
 class Misread(Exception):
@@ -92,179 +92,128 @@ def declared(name, word, count=0):
     return f"External ({name}, {word}{arguments})"
 
 
-class Named:
-    """A name on a line: how many arguments it has there, whether it is a value, and whether ASL has it as a call; of an
-    External's the word of its type."""
-
-    __slots__ = ("name", "count", "is_value", "is_call", "word")
-
-    def __init__(self, name, count=0, is_value=False, is_call=False, word=""):
-        self.name, self.count, self.is_value, self.is_call, self.word = name, count, is_value, is_call, word
+# A name on a line: how many arguments it has there, whether it is a value, and whether ASL has it as
+# a call; of an External's the word of its type
+Named = namedtuple("Named", "name count is_value is_call word", defaults=[0, False, False, ""])
 
 
-class Bracket:
-    """A bracket that is open: the word in front, and how many names were met with it; which of its parts comes next,
-    whether that is empty so far, and the size that the word has, where that is a constant."""
-
-    __slots__ = ("word", "names", "mark", "kinds", "place", "is_empty", "size")
-
-    def __init__(self, word, names, mark, size=None):
-        self.word, self.names, self.mark, self.size = word, names, mark, size
-        self.kinds = aml.PARTS.get(word, "") if mark == "(" else ""
-        self.place, self.is_empty = 0, True
-
-    def kind(self):
-        """The kind of the part that comes next, as in aml.PARTS."""
-        return self.kinds[self.place] if self.place < len(self.kinds) else "T"
+# Where a term stands: in which word's brackets, of which kind, as which part (as in aml.PARTS), and the place of that
+Part = namedtuple("Part", "word mark kind place")
+OUTSIDE = Part("", "", "T", 0)
 
 
-OUTSIDE = Bracket("", 0, "")
+def spelled(term):
+    """A term as the listing has it."""
+    if term is None:
+        return ""
+    inner = [f" ({', '.join(map(spelled, term.arguments))})"] if term.arguments else []
+    if term.braced is not None:
+        texts = (f"{it:02X}" if isinstance(it, int) else spelled(it) for it in term.braced)
+        inner.append(f" {{{', '.join(texts)}}}")
+    return "".join([term.word, *inner])
+
+
+def depth_of(text):
+    """How many brackets are open at most."""
+    steps = ({"(": 1, "{": 1, ")": -1, "}": -1}.get(found[0], 0) for found in BRACKET.finditer(text))
+    return max(itertools.accumulate(steps), default=0)
 
 
 class Turner:
-    """Turns a line from the left, bracket by bracket."""
+    """Turns a line, term by term."""
 
     def __init__(self, revision, tell):
-        self.revision, self.tell = revision, tell
-        self.out, self.open, self.names, self.word, self.size = [], [], [], "", None
+        self.revision, self.tell, self.names = revision, tell, []
 
     def line(self, text):
-        end = len(text)
-        for found in TOKEN.finditer(text):
-            kind, token = found.lastgroup, found[0]
-            if kind == "mark":
-                self.mark(token, found.end() == end)
-            elif kind == "bytes":
-                self.bytes(token)
-            elif kind == "other":
-                raise Misread
-            else:
-                self.filled()
-                self.word = token
-                self.out.append(self.part(kind, token, self.open[-1] if self.open else OUTSIDE))
-        if self.open or not self.word:
+        """A line of one term, which may open a block."""
+        opens = " {" if text.endswith(" {") else ""
+        found = terms_in(WORD.split(text.removesuffix(opens))) if depth_of(text) <= DEEPEST else []
+        if len(found) != 1 or spelled(found[0]) + opens != text:
             raise Misread
-        return "".join(self.out)
+        return self.term(found[0], OUTSIDE) + opens
 
-    def filled(self):
-        """A part begins, which nothing may stand in front of."""
-        if not self.open and self.word or self.open and not self.open[-1].is_empty:
+    def term(self, term, part):
+        text, kinds = self.word(term, part), aml.PARTS.get(term.word, "")
+        if term.arguments:
+            kinds = kinds.ljust(len(term.arguments), "T")
+            places = enumerate(zip(kinds, term.arguments))
+            texts = [self.part(it, Part(term.word, "(", kind, place)) for place, (kind, it) in places]
+            while texts and not texts[-1]:  # targets that aren't there
+                texts.pop()
+            text += f" ({', '.join(texts)})"
+        if term.braced is not None:
+            text += f" {{{', '.join(self.braced(term))}}}"
+        return text
+
+    def braced(self, term):
+        """The bytes of a Buffer, or the elements of a package."""
+        is_bytes = isinstance(term.braced, bytes)
+        if term.word not in language.SIZED or is_bytes and term.word != "Buffer":
             raise Misread
-        if self.open:
-            self.open[-1].is_empty = False
+        for place, it in enumerate(term.braced):
+            yield f"0x{it:02X}" if is_bytes else self.part(it, Part(term.word, "{", "T", place))
+        size = term.argument(0)
+        if size and size.number is not None and len(term.braced) > size.number:
+            self.tell(f"a {term.word} of more than its size")
 
-    # ---- brackets and commas
-
-    def mark(self, token, is_last):
-        if token == "(" or token == "{" and not (is_last and not self.open):
-            self.begin(token)
-        elif token in ")}":
-            self.end(token)
-        elif token[0] == ",":
-            self.next()
-        self.out.append(token)
-
-    def begin(self, mark):
-        if not self.word or self.open and self.open[-1].is_empty:
-            raise Misread
-        self.open.append(Bracket(self.word, len(self.names), mark, self.size if mark == "{" else None))
-        self.size = None
-
-    def next(self):
-        if not self.open:
-            raise Misread
-        inner = self.open[-1]
-        if inner.is_empty:
-            self.empty(inner)
-        inner.place, inner.is_empty = inner.place + 1, True
-
-    def end(self, mark):
-        if not self.open or CLOSES[self.open[-1].mark] != mark:
-            raise Misread
-        inner = self.open.pop()
-        if mark == "}":
-            self.check_size(inner.word, inner.size, inner.place + (not inner.is_empty))
-        else:
-            if inner.is_empty:
-                self.empty(inner)
-            while self.out[-1] == ", ":  # targets that aren't there
-                self.out.pop()
-            if inner.word not in aml.PARTS:
-                self.names[inner.names - 1] = Named(inner.word, inner.place + 1, is_value=True, is_call=True)
-        self.word, self.size = inner.word, inner.size
-
-    def bytes(self, token):
-        """The bytes of a Buffer, or a package without elements."""
-        inner = token[1:-1].split(", ") if len(token) > 2 else []
-        if self.word not in language.SIZED or inner and self.word != "Buffer":
-            raise Misread
-        self.check_size(self.word, self.size, len(inner))
-        self.out.append("{" + ", ".join("0x" + byte for byte in inner) + "}")
-
-    def check_size(self, word, size, count):
-        if size is not None and count > size:
-            self.tell(f"a {word} of more than its size")
-
-    def empty(self, inner):
-        """A part that is empty is a target or a name that isn't there."""
-        kind = inner.kind() if inner.mark == "(" else ""
-        if kind == "N":
+    def part(self, term, part):
+        """A part, which may be a target or a name that isn't there."""
+        if term is not None:
+            return self.term(term, part)
+        if part.mark == "(" and part.kind == "N":
             self.tell("an empty name")
-        elif kind != "S":
+        elif part.mark != "(" or part.kind != "S":
             raise Misread
-        elif inner.word in language.TARGETED or inner.word == "CondRefOf" and inner.place == 0:
-            self.tell(f"{inner.word} without a target")
+        elif part.word in language.TARGETED or (part.word, part.place) == ("CondRefOf", 0):
+            self.tell(f"{part.word} without a target")
+        return ""
 
-    # ---- what stands between them
-
-    def part(self, kind, token, inner):
-        if inner.mark == "(" and inner.word in language.SIZED:
-            inner.size = self.size_of(token, inner.word)
-        if kind == "text":
-            self.check(token, kind, inner)
+    def word(self, term, part):
+        """The word of a term."""
+        token = term.word
+        if (part.word, part.mark) == ("VarPackage", "(") and term.number in range(256):
+            self.tell("a VarPackage of a constant size")
+        if token[0] == '"':
+            self.check(token, part)
             return quoted(token[1:-1], self.tell)
         if token[0] == "0" and NUMBER.fullmatch(token):
-            self.check(token, kind, inner)
-            return self.number(token, inner)
+            self.check(token, part)
+            return self.number(token, part)
         if token in aml.PARTS:
-            self.check(token, kind, inner)
+            self.check(token, part)
             return language.RENAMED.get(token, token)
         if not NAME.fullmatch(token):
             raise Misread
-        if inner.word == "Name" and inner.place == 1:
+        if (part.word, part.place) == ("Name", 1):
             self.tell("a name as the value of a Name")
-        self.names.append(Named(token, is_value=inner.mark == "(" and inner.kind() == "T"))
+        is_call = bool(term.arguments)
+        is_value = is_call or (part.mark, part.kind) == ("(", "T")
+        self.names.append(Named(token, len(term.arguments), is_value, is_call))
         return plain(token, self.tell)
 
-    def check(self, token, kind, inner):
+    def check(self, token, part):
         """Whether ASL takes this, which is no name, as a part of the word in front of the bracket."""
-        if inner.mark and (token == "Load" or token == "Debug" and inner.kind() in "TD"):
+        if part.mark and (token == "Load" or token == "Debug" and part.kind in "TD"):
             self.tell(f"{token} as a value")
-        elif token in language.PICKY.get((inner.word, inner.place), ()):
-            self.tell(f"{inner.word} of {token}")
-        elif inner.word == "DerefOf" and not (token in language.REFERENCES or STORAGE.fullmatch(token)):
+        elif token in language.PICKY.get((part.word, part.place), ()):
+            self.tell(f"{part.word} of {token}")
+        elif part.word == "DerefOf" and not (token in language.REFERENCES or STORAGE.fullmatch(token)):
             self.tell("DerefOf of what is no reference")
 
-    def size_of(self, token, word):
-        """The size of a Buffer or of a package, where it is a constant."""
-        size = int(token, 16) if NUMBER.fullmatch(token) else aml.SMALL.get(token)
-        if word == "VarPackage" and size is not None and size < 256:
-            self.tell("a VarPackage of a constant size")
-        return size
-
-    def number(self, token, inner):
+    def number(self, token, part):
         value, width = int(token, 16), len(token) // 2 - 1
-        if inner.kind().isdigit():
-            return self.fixed(token, value, inner)
+        if part.kind.isdigit():
+            return self.fixed(token, value, part)
         if width == 8 and self.revision < 2:
             self.tell(f"{token} in a table of revision {self.revision}, whose integers have 4 bytes")
         elif width > 1 and value < 1 << 4 * width:
             self.tell(f"{token}, which is wider than it needs to be")
         return token
 
-    def fixed(self, token, value, inner):
+    def fixed(self, token, value, part):
         """A number of a width of its own, for most of which ASL has words."""
-        word, place = inner.word, inner.place
+        word, place = part.word, part.place
         if word == "OperationRegion":
             if value not in standard.SPACES and value < standard.FIRST_OF_VENDORS:
                 self.tell(f"a region in the space {token}")

@@ -28,7 +28,10 @@ def name_html(word: str, meaning: Meaning, sheet: Sheet) -> str:
     if meaning.sort is Sort.LEADS:
         if not sheet.has_anchor(meaning):
             return f'<span class=out title="{path_text(meaning.path)}, not on this page">{word}</span>'
-        return f"<a href=#{meaning.anchor}{others_title(meaning)}>{word}</a>"
+        # What it may mean too, in another run
+        others = " or ".join(path_text(other.path) for other in meaning.others if other.path is not None)
+        title = f' title="or {others}"' if others else ""
+        return f"<a href=#{meaning.anchor}{title}>{word}</a>"
     if meaning.sort is Sort.DECLARES:
         return f"<dfn id={meaning.anchor}>{word}</dfn>"
     if meaning.sort is Sort.AGAIN:
@@ -37,12 +40,6 @@ def name_html(word: str, meaning: Meaning, sheet: Sheet) -> str:
         path = f" title={path_text(meaning.path)}" if meaning.path else ""
         return f"<dfn{path}>{word}</dfn>"
     return f'<u title="nothing declares it">{word}</u>'
-
-
-def others_title(meaning: Meaning) -> str:
-    """What a name may mean too, in another run."""
-    paths = [path_text(other.path) for other in meaning.others if other.path is not None]
-    return f' title="or {" or ".join(paths)}"' if paths else ""
 
 
 def line_html(line: Line, sheet: Sheet, is_decoded: bool) -> str:
@@ -77,12 +74,6 @@ def raw_html(line: Line, fault: Fault | None) -> str:
             name = spelled_name(code[fault.at:]) if fault.word == "UnknownName" else ""
             said += f", {name}" if name else ""
     return f"{'  ' * line.depth}<b>Raw</b>{shown}<em class=note>{said}</em>"
-
-
-def said_html(notes: list[str], rows: list[str]) -> str:
-    """What a line's numbers and bytes mean."""
-    shown = "".join(f"<small class=say>{escape(note)}</small>" for note in notes)
-    return shown + "".join(f'<small class="say row">{escape(row)}</small>' for row in rows)
 
 
 def said_of(line: Line, sheet: Sheet) -> tuple[list[str], list[str]]:
@@ -120,7 +111,10 @@ class BlockWriter:
 
     def head(self, line: Line) -> str:
         text, mark = self.content(line)
-        return f"{fold_html(line)}<summary id={line.number}{classed(mark)}>{text}</summary>\n"
+        count = line.end - line.number + 1
+        height = f";--n:{count}" if count >= LONG_BLOCK else ""
+        fold = f"<details open style=--d:{line.depth + 1}{height}>"
+        return f"{fold}<summary id={line.number}{classed(mark)}>{text}</summary>\n"
 
     def line(self, line: Line) -> str:
         text, mark = self.content(line)
@@ -189,7 +183,9 @@ class BlockWriter:
             text += f"<a class=note href=#c{line.number}>changed</a>"
         elif line.number in self.changed:
             mark = "differs"
-        return text + self.nexts.get(line.number, "") + said_html(notes, rows), mark
+        said = [f"<small class=say>{escape(note)}</small>" for note in notes]
+        said += [f'<small class="say row">{escape(row)}</small>' for row in rows]
+        return "".join([text, self.nexts.get(line.number, ""), *said]), mark
 
 
 def next_notes(names: Names, sheet: Sheet) -> dict[int, str]:
@@ -211,12 +207,6 @@ def folds_here(line: Line) -> bool:
     return line.end > line.number + 2 or bool(line.end) and line.term == "Method"
 
 
-def fold_html(line: Line) -> str:
-    count = line.end - line.number + 1
-    height = f";--n:{count}" if count >= LONG_BLOCK else ""
-    return f"<details open style=--d:{line.depth + 1}{height}>"
-
-
 def blocks_html(sheet: Sheet) -> list[str]:
     """The definition blocks, and the uses of what they declare."""
     writer, written = BlockWriter(sheet), []
@@ -227,19 +217,12 @@ def blocks_html(sheet: Sheet) -> list[str]:
     return [*written, *use_list_html(sheet, writer.uses)]
 
 
-# ---- uses
-
-
 def uses_html(uses: Uses, sheet: Sheet) -> str:
-    items = (
-        f"<li>{path_text(path)} " + " ".join(number_html(number, sheet) for number in numbers)
-        for path, numbers in uses.items()
-    )
+    def number(it: int) -> str:
+        return f"<a href=#{it}>{it}</a>" if sheet.shows(it) else f"<span>{it}</span>"
+
+    items = (f"<li>{path_text(path)} {' '.join(map(number, numbers))}" for path, numbers in uses.items())
     return f"<ul>{''.join(items)}</ul>"
-
-
-def number_html(number: int, sheet: Sheet) -> str:
-    return f"<a href=#{number}>{number}</a>" if sheet.shows(number) else f"<span>{number}</span>"
 
 
 def line_uses_html(line: Line, sheet: Sheet) -> list[str]:

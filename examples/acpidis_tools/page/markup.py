@@ -11,9 +11,9 @@ import pathlib
 import re
 from html import escape
 
-from acpidis_tools.comparison import Text, differences
+from acpidis_tools.comparison import differences
 from acpidis_tools.errors import raw_lines
-from acpidis_tools.listing import TEXT, Listing, Path, path_text
+from acpidis_tools.listing import TEXT, Listing, path_text
 from acpidis_tools.names import PREDEFINED
 from acpidis_tools.page.lines import blocks_html, uses_html
 from acpidis_tools.page.packing import index_html
@@ -38,9 +38,6 @@ def raw_list_html(sheet: Sheet) -> list[str]:
     return [f"<section id=raw><details><summary>{head}</summary><ul>\n", *items, "</ul></details></section>\n"]
 
 
-# ---- what no table declares
-
-
 def undeclared_html(sheet: Sheet) -> list[str]:
     """The predefined names that are used, and the names that nothing declares."""
     names = sheet.names
@@ -58,25 +55,6 @@ def undeclared_html(sheet: Sheet) -> list[str]:
     return written + ["<section id=strays><h2>Names that nothing declares</h2>\n", *strays, end] if strays else written
 
 
-# ---- the comparison
-
-
-def text_html(text: Text) -> str:
-    return f"<pre>{escape(chr(10).join(text))}</pre>"
-
-
-def difference_html(here: Text, there: Text) -> str:
-    """Two texts as one: the lines that this listing alone has are struck out, those that the other one alone has stand
-    where it has them."""
-    lines = (f"<{mark}>{escape(line)}</{mark}>" if mark else escape(line) for mark, line in differences(here, there))
-    return f"<pre>{chr(10).join(lines)}</pre>"
-
-
-def anchor_of_added(sheet: Sheet, path: Path) -> str:
-    """A path that only the other listing declares may be predefined here, or an External's, and then has its anchor."""
-    return "" if path in PREDEFINED or path in sheet.names.externals else f" id={path_text(path)}"
-
-
 def comparison_html(sheet: Sheet) -> list[str]:
     found = sheet.comparison
     if not found:
@@ -84,16 +62,20 @@ def comparison_html(sheet: Sheet) -> list[str]:
     names = sheet.names.lines
     links = {path: link(path) if sheet.has_path(path) else path_text(path) for path in (*found.lacks, *found.changes)}
     lacks = [f"<li class=lacking>{links[path]}</li>\n" for path in sorted(found.lacks)]
-    adds = [
-        f"<li class=added><details{anchor_of_added(sheet, path)}><summary>{path_text(path)}</summary>"
-        f"{text_html(text)}</details></li>\n"
-        for path, text in found.adds.items()
-    ]
-    changes = [
-        f"<li class=changed><details id=c{names[path].number}><summary>{links[path]}</summary>"
-        f"{difference_html(found.here[path], text)}</details></li>\n"
-        for path, text in found.changes.items()
-    ]
+    adds, changes = [], []
+    for path, text in found.adds.items():
+        # It may be predefined here, or an External's, and then has its anchor.
+        has_anchor = path in PREDEFINED or path in sheet.names.externals
+        anchor = "" if has_anchor else f" id={path_text(path)}"
+        head, shown = f"<details{anchor}><summary>{path_text(path)}</summary>", escape("\n".join(text))
+        adds.append(f"<li class=added>{head}<pre>{shown}</pre></details></li>\n")
+    for path, text in found.changes.items():
+        # Lines that this listing alone has are struck out, those of the other one stand where it has them.
+        lines = differences(found.here[path], text)
+        lines = (f"<{mark}>{escape(line)}</{mark}>" if mark else escape(line) for mark, line in lines)
+        shown = "\n".join(lines)
+        head = f"<details id=c{names[path].number}><summary>{links[path]}</summary>"
+        changes.append(f"<li class=changed>{head}<pre>{shown}</pre></details></li>\n")
     written = [f"<section id=comparison><h2>Beside {escape(found.other)}</h2>\n", *table_changes_html(sheet)]
     ours, theirs = escape(sheet.name), escape(found.other)
     kinds = ((adds, f"{theirs} alone has"), (lacks, f"{ours} alone has"), (changes, f"{theirs} has otherwise than {ours}"))
@@ -102,9 +84,6 @@ def comparison_html(sheet: Sheet) -> list[str]:
         head = f"<summary>{counted(len(items), 'path')} that {word}</summary>"
         written += [f"<details{state}>{head}<ul>\n", *items, "</ul></details>\n"]
     return [*written, "</section>\n"]
-
-
-# ---- the page
 
 
 def title_of(listing: Listing) -> str:
