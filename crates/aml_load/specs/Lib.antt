@@ -1,5 +1,6 @@
 pub mod Groups
 pub mod Loading
+pub mod Loads
 pub mod Views
 pub mod Spans
 pub mod Running
