@@ -33,12 +33,13 @@ use Rattle.aml_load.specs.Loading.{methods_of, most_methods, in_declaration, dec
 use Rattle.aml_load.specs.Loads.{Adds, AddsUnits, Does, DoesTerm, emptied, Agrees, TermsDeclare, TermDeclares}
 use Rattle.aml_load.specs.Loads.{InsideDeclares, TermsRead, TermReads, TableLoads, TablesLoad, LoadsTo}
 use Rattle.aml_load.specs.Running.{Front, table_front, entered_at, run_names}
-use Rattle.aml_load.specs.Tables.{ReadsOne, ReadTables}
+use Rattle.aml_load.specs.Tables.{ReadsOne, ReadTables, ListsTo}
 use Rattle.aml_load.proofs.Agreeing.{All-left, All-right, told, module_agrees, module_told, run_agrees, run_told}
 use Rattle.aml_load.proofs.Doing.{bound, with_entries, Lists, goes_in, Goes, GoesSo, strict_is, strict_so, run_site, front, EntersIs}
 use Rattle.aml_load.proofs.Doing.{EntersSo, enter_is, enter_so, is_flat}
 use Rattle.aml_load.proofs.Holding.{methods_more}
 use Rattle.aml_load.proofs.NoSpans.{terms_tail}
+use Rattle.aml_load.proofs.RunSpans.{lists_in_text_order}
 use Rattle.aml_load.proofs.SpanLaws.{role_is, fits, is_body, is_terms, row_fits, next_in_table, kept_in_table}
 use Rattle.aml_load.proofs.SpanLaws.{is_flat as is_flat_tail}
 
@@ -116,7 +117,7 @@ no_path None ls ps r = refl
 no_path (Some row) ls ps r = refl
 
 mutual
-  pub no_local : (ls : PathSet) (x : Tree) → after None ls x ≡ ls
+  no_local : (ls : PathSet) (x : Tree) → after None ls x ≡ ls
   no_local ls nothing = refl
   no_local ls (named n ts) = refl
   no_local ls (op o w ps r) = no_path (row_of o) (after_tail None ls r) ps r ∙ no_inside ls r
@@ -487,3 +488,16 @@ module _ (any z : Bool) (last : List Entry) where
       let here = table_so any t l c ts gs (omega (arith, few, tables_fewer (suc t) gs cs rest fs behind)) one all in
       let there = tables_so (suc t) (record { entries = gs; uses = here.0 }) cs rest fs few behind here.2 in
       (there.0, (record { entries = gs; uses = here.0 }, here.1, there.1), there.2)
+
+module _ (any z : Bool) (gs : Givens) (cs : List (List ℕ)) (trees : List Trees) where
+  pub loads_is : (m : Listed) → ListsTo any z gs cs trees m → LoadsTo any z gs cs trees m.entries
+  loads_is m h = record {
+    read = (tables_are any z m.entries 0 (first_listed gs) cs trees m h.read h.agreed).0;
+    few = (lists_in_text_order any z gs cs trees m h).1;
+  }
+
+  pub loads_so : (es : List Entry) → LoadsTo any z gs cs trees es
+      → (us : List Use) × ListsTo any z gs cs trees (record { entries = es; uses = us })
+  loads_so es h =
+      let done = tables_so any z es 0 (first_listed gs) cs trees es h.few h.read (All-nil (λ u. use_count z es u ≡ Some u.args)) in
+      (done.0, record { read = done.1; agreed = done.2 })

@@ -1,5 +1,3 @@
-use Rattle.aml_load.proofs.Agreeing.{All-left}
-use Rattle.aml_load.proofs.Relating.{no_local}
 use Rattle.aml_load.proofs.Loads.{loads_one_way, are_spelled}
 use Rattle.aml_load.proofs.laws.loads_one_way.Goals as goal
 
