@@ -23,12 +23,12 @@ HEAD = TOP / "tests/meaning_words.md"
 PARTS = [
     ("What a set of dumps means", "acpidis: Means"),
     ("The order of the definition blocks", "acpi_tables: IsOrder bytes_of table_of"),
-    ("What tables declare", "aml_load: LoadsTo Listed methods_of"),
+    ("What tables declare", "aml_load: LoadsTo methods_of"),
     ("Which bytes are terms", "aml_code: ReadsModule ReadsBody row_of"),
     ("What a name means", "aml_namespace: found arity_of namespace_of kind_at aml_names: candidates placed IsName spelling PathSet"),
     ("What a listing in memory shows", "acpidis: Shows"),
 ]
-ADDED = ("What `--any-run` adds", "aml_parse: ReadsTable aml_load: run_names table_front Front aml_namespace: agreed_path agreed_arity outlook_of")
+ADDED = ("What `--any-run` adds", "aml_load: TermsRead aml_namespace: agreed_path agreed_arity outlook_of scope_in")
 PRINTED = ("What a run prints", "acpidis: Lists")
 # Types that are met only as the fault of a Result, which no Ok has: they stand in a part of their own.
 FAULTS = ("What a fault can be", ["TableFault", "Bad", "LoadFault", "CodeFault", "SpaceFault"])

@@ -6,8 +6,8 @@ use Rattle.aml_names.specs.declared.segments.Seg.{Seg}
 use Rattle.aml_code.specs.Tree.{Trees}
 use Rattle.aml_namespace.specs.Namespace.{Entry}
 use Rattle.aml_namespace.specs.Known.{Declared, declarations_in}
-use Rattle.aml_load.specs.Loading.{Listed, methods_of}
-use Rattle.aml_load.specs.Tables.{LoadsTo}
+use Rattle.aml_load.specs.Loading.{methods_of}
+use Rattle.aml_load.specs.Loads.{LoadsTo}
 use Rattle.aml_load.specs.Views.{HoldsLoad, HoldsTables}
 use Rattle.aml_set.specs.Views.{table_dumps}
 use Rattle.aml_set.specs.declared.loaded.Loaded.{Loaded}
@@ -28,7 +28,7 @@ pub record Meaning : Type 0 where
   pub dsdt : ℕ
   pub ssdts : List ℕ
   pub trees : List Trees
-  pub listed : Listed
+  pub entries : List Entry
   pub bodies : List OneBody
 
 -- the indexes of the definition blocks, and their AML
@@ -43,20 +43,20 @@ abbrev pub none_unknown : Options → Bool
 none_unknown options = options.any_run && options.unknown_zero
 
 -- The tables' AML reads as these trees, which load to these entries, with these options.
-abbrev pub LoadsBy : Options → List (List ℕ) → List Trees → Listed → Type 0
-LoadsBy options codes trees m = LoadsTo options.any_run (none_unknown options) options.externals.items codes trees m
+abbrev pub LoadsBy : Options → List (List ℕ) → List Trees → List Entry → Type 0
+LoadsBy options codes trees es = LoadsTo options.any_run (none_unknown options) options.externals.items codes trees es
 
 -- The dumps have this order, and the AML of its tables loads to these trees and entries. Nothing is said of the bodies
 -- of methods.
 pub record LoadsSet (dumps : List Dump) (options : Options) (k : Meaning) : Type 0 where
   pub order : IsOrder dumps options.any_sum k.dsdt k.ssdts
-  pub loads : LoadsBy options (codes_of dumps k) k.trees k.listed
+  pub loads : LoadsBy options (codes_of dumps k) k.trees k.entries
 
 -- The dumps mean this listing, with these options: they load to it, and each body is the terms that it reads as in the
 -- namespace of all entries, or raw, where it reads as no terms.
 pub record Means (dumps : List Dump) (options : Options) (k : Meaning) : Type 0 where
   pub set : LoadsSet dumps options k
-  pub bodies : AllZip (IsEntry options.unknown_zero k.listed.entries (codes_of dumps k)) (methods_of k.listed.entries)
+  pub bodies : AllZip (IsEntry options.unknown_zero k.entries (codes_of dumps k)) (methods_of k.entries)
       k.bodies
 
 -- the rows of the namespace: the declared paths in order, each once, with what its declarations say
@@ -65,7 +65,7 @@ rows_of es = finite.entries (declarations_in es)
 
 -- the text of a listing
 abbrev pub text_of : List Dump → Meaning → List ℕ
-text_of dumps k = listing_text dumps (order_of k) (rows_of k.listed.entries) (codes_of dumps k) k.trees k.bodies
+text_of dumps k = listing_text dumps (order_of k) (rows_of k.entries) (codes_of dumps k) k.trees k.bodies
 
 -- ---- a listing in memory
 
@@ -73,7 +73,7 @@ text_of dumps k = listing_text dumps (order_of k) (rows_of k.listed.entries) (co
 pub record HoldsSet (order : Order) (loaded : Loaded) (dumps : List Dump) (k : Meaning) : Type 0 where
   pub dsdt : order.dsdt ≡ k.dsdt
   pub ssdts : order.ssdts.items ≡ k.ssdts
-  pub holds : HoldsLoad loaded (codes_of dumps k) k.trees k.listed
+  pub holds : HoldsLoad loaded (codes_of dumps k) k.trees k.entries
 
 -- it is this listing
 pub record Shows (x : Listing) (dumps : List Dump) (k : Meaning) : Type 0 where
@@ -85,7 +85,7 @@ pub record Shows (x : Listing) (dumps : List Dump) (k : Meaning) : Type 0 where
 -- raw one is true of it, and the first that is met.
 abbrev pub Told : Listing → List Dump → Options → Meaning → Type 0
 Told x dumps options k =
-    AllZip (Became options.unknown_zero k.listed.entries (codes_of dumps k)) (methods_of k.listed.entries)
+    AllZip (Became options.unknown_zero k.entries (codes_of dumps k)) (methods_of k.entries)
     x.bodies.items
 
 -- ---- The tables of a set, loaded in their order, before the bodies of their methods are read.
@@ -93,7 +93,7 @@ Told x dumps options k =
 -- the tables of a set are those of this listing
 pub record HasTables (set : TableSet) (dumps : List Dump) (k : Meaning) : Type 0 where
   pub named : table_dumps set.tables.items ≡ order_of k
-  pub holds : HoldsTables set (codes_of dumps k) k.trees k.listed
+  pub holds : HoldsTables set (codes_of dumps k) k.trees k.entries
 
 -- a set is what the dumps load to, which is nothing else, and within the limit of methods
 pub record IsSet (dumps : List Dump) (options : Options) (set : TableSet) : Type 0 where
