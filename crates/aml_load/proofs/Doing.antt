@@ -1,6 +1,6 @@
 -- What a term does itself is what declaring it forward lists, and where the terms inside it stand.
 use Rattle.std.specs.FinSet as set
-use Rattle.std.specs.Option.{ok_or, option_and_then, option_or}
+use Rattle.std.specs.Option.{ok_or, option_and_then, option_map, option_or}
 use Rattle.std.proofs.Common.{◌≡◌, ◌≤◌, ◌⊎◌, inl, inr, ℕ, zero, suc, ◌-◌, ◌+◌, Bool, true, false, not, ◌&&◌, ◌||◌, cond, List, [], ◌∷◌, ◌++◌}
 use Rattle.std.proofs.Common.{length, Option, Some, None, is_some, Result, Ok, Err, refl, sym, ap, subst, ◌∙◌, arith, nat_le, ◌==◌}
 use Rattle.std.proofs.Common.{take, ◌%◌}
@@ -14,22 +14,232 @@ use Rattle.aml_names.specs.Names.{placed}
 use Rattle.aml_names.specs.Searching.{candidates, upward, is_single}
 use Rattle.aml_code.specs.declared.rows.Role.{Role}
 use Rattle.aml_code.specs.declared.rows.Role.TheVariants as roles
-use Rattle.aml_code.specs.Lawful.{last_label, field_names}
-use Rattle.aml_code.specs.Tree.{Parts, Tail}
+use Rattle.aml_code.specs.Lawful.{last_label, field_names, Setting, IsOperation, AreParts, IsTail, terms_in, tail_in}
+use Rattle.aml_code.specs.Opcodes.{Row, rows, row_of}
+use Rattle.aml_code.specs.Tree.{Tree, Parts, no_parts, part_more, Part, label, byte, Tail, body}
+use Rattle.aml_code.specs.declared.packages.PkgWidth.{PkgWidth}
+use Rattle.aml_code.specs.declared.rows.PartKind.{PartKind}
+use Rattle.aml_code.specs.declared.rows.PartKind.TheVariants as part_kinds
+use Rattle.aml_code.specs.declared.rows.Position.{Position}
+use Rattle.aml_code.specs.declared.rows.Position.TheVariants as positions
+use Rattle.aml_code.specs.declared.rows.TailKind.{TailKind}
+use Rattle.aml_code.specs.declared.rows.TailKind.TheVariants as tails
+use Rattle.aml_code.proofs.RowFacts.{rows_say}
+use Rattle.aml_names.specs.Paths.{PathSet}
 use Rattle.aml_space.specs.declared.faults.SpaceFault.{SpaceFault}
 use Rattle.aml_space.specs.declared.faults.SpaceFault.TheVariants as faults
 use Rattle.aml_namespace.specs.declared.kinds.Kind.{Kind}
 use Rattle.aml_namespace.specs.declared.kinds.Kind.TheVariants as kinds
 use Rattle.aml_namespace.specs.Namespace.{Entry, external, declared_at, namespace_of, first_of, found, is_outside}
-use Rattle.aml_namespace.specs.Runs.{Outlook, outlook_of, agreed_or, first_agreed, agreed_path}
+use Rattle.aml_namespace.specs.Runs.{Outlook, outlook_of, agreed_or, first_agreed, agreed_path, scope_in}
 use Rattle.aml_load.specs.declared.faults.LoadFault.{LoadFault}
 use Rattle.aml_load.specs.declared.faults.LoadFault.TheVariants as loads
-use Rattle.aml_load.specs.Loading.{◌>>=◌, kind_of, Where, strict, Listed, plus, methods_of, most_methods, first_label, byte_of}
+use Rattle.aml_load.specs.Loading.{◌>>=◌, role_of, kind_of, sure_here, Where, strict, Listed, plus, methods_of, most_methods, first_label, byte_of}
 use Rattle.aml_load.specs.Loading.{body_span, plain_entry, method_entry, lead_of, alias_entry, place_at, lead_at, entry_at}
 use Rattle.aml_load.specs.Loading.{new_at, method_at, alias_at, external_at, units_at, declare_as}
-use Rattle.aml_load.specs.Loads.{IsPath, Adds, AddsUnits, opened, in_object, in_scope, in_block, Does}
+use Rattle.aml_load.specs.Loads.{Adds, AddsUnits, Does}
 use Rattle.aml_load.specs.Running.{Front, opened_by, opened_at, object_at, scope_at, enter_as}
 use Rattle.aml_load.proofs.Holding.{methods_more}
+use Rattle.aml_load.proofs.SpanLaws.{role_is}
+
+-- ---- what a term does, by what its parts have, whatever these are
+
+abbrev pub IsPath : Where → Option Name → List Seg → Type 0
+IsPath site n p = option_and_then (placed site.scope) n ≡ Some p
+
+abbrev pub AddsBy : Where → List Entry → Option Name → (List Seg → Entry) → List Entry → Type 0
+AddsBy site es n entry fs = (p : List Seg) × IsPath site n p × (site.any_run ≡ false → declared_at es p ≡ None)
+    × (fs ≡ es ++ entry p ∷ [])
+
+abbrev opened_in : Where → List Entry → Option Name → Option (List Seg)
+opened_in site es n = option_or (lead_of site es n)
+    (cond (site.any_run && not (is_some (option_and_then (found (namespace_of es) set.empty site.scope) n)))
+    (option_and_then (placed site.scope) n) None)
+
+abbrev in_object : Where → List Entry → List Seg → Where
+in_object site es p = record site { scope = p; sure = sure_here site es p && not (is_some (declared_at es p)) }
+
+abbrev in_scope : Where → List Entry → List Seg → Where
+in_scope site es p = record site { scope = p; sure = site.sure && (not site.any_run || scope_in (outlook_of es) p) }
+
+abbrev in_block : Where → Where
+in_block site = record site { sure = not site.any_run && site.sure }
+
+abbrev pub DoesBy : Role → Where → List Entry → Parts → Tail → List Entry → Where → Type 0
+DoesBy (roles.Declares o) site es ps r fs below = IsPath site (last_label None ps) below.scope
+    × AddsBy site es (last_label None ps) (plain_entry site es (kind_of o)) fs × (below ≡ in_object site es below.scope)
+DoesBy roles.Method site es ps r fs below =
+    AddsBy site es (last_label None ps) (method_entry site es (byte_of ps) (body_span r)) fs
+DoesBy roles.Scope site es ps r fs below =
+    (opened_in site es (last_label None ps) ≡ Some below.scope) × (es ≡ fs) × (below ≡ in_scope site es below.scope)
+DoesBy roles.Alias site es ps r fs below = (source : List Seg) × (lead_of site es (first_label ps) ≡ Some source)
+    × AddsBy site es (last_label None ps) (alias_entry site es source) fs
+DoesBy roles.External site es ps r fs below =
+    (p : List Seg) × IsPath site (last_label None ps) p × (fs ≡ es ++ external p (byte_of ps) ∷ [])
+DoesBy roles.Fields site es ps r fs below = AddsUnits site es (field_names r) fs
+DoesBy _ site es ps r fs below = (es ≡ fs) × (below ≡ in_block site)
+
+-- ---- the parts are those of the role
+
+-- what a row of a role has
+shape : Role → List PartKind → Option TailKind → Bool
+shape roles.Method (part_kinds.Name ∷ part_kinds.Byte ∷ []) (Some tails.Body) = true
+shape roles.Method _ k = false
+shape roles.Scope (part_kinds.ScopeName ∷ []) k = true
+shape roles.Scope _ k = false
+shape roles.Alias (part_kinds.Name ∷ part_kinds.Name ∷ []) k = true
+shape roles.Alias _ k = false
+shape roles.External (part_kinds.Name ∷ part_kinds.Byte ∷ part_kinds.Count ∷ []) k = true
+shape roles.External _ k = false
+shape _ ks k = true
+
+row_shape : (o : ℕ) (r : Row) → row_of o ≡ Some r → shape r.role r.parts r.tail ≡ true
+unfolding rows shape
+row_shape o r listed = rows_say (λ r. true) (λ r. shape r.role r.parts r.tail) refl o r listed refl
+
+abbrev pub Shaped : Role → Parts → Tail → Type 0
+Shaped roles.Method ps r = (n : Name) × (flags start len : ℕ)
+    × (ps ≡ part_more (label n) (part_more (byte flags) no_parts)) × (r ≡ body start len)
+Shaped roles.Scope ps r = (n : Name) × (ps ≡ part_more (label n) no_parts)
+Shaped roles.Alias ps r = (source n : Name) × (ps ≡ part_more (label source) (part_more (label n) no_parts))
+Shaped roles.External ps r = (n : Name) × (k count : ℕ)
+    × (ps ≡ part_more (label n) (part_more (byte k) (part_more (byte count) no_parts)))
+Shaped _ ps r = Unit {0}
+
+module _ (Is : Position → Tree → Type 0) where
+  none_left : (ps : Parts) → AreParts Is [] ps → ps ≡ no_parts
+  none_left no_parts law = refl
+  none_left (part_more p ps) law = absurd law
+
+  name_first : (ks : List PartKind) (ps : Parts) → AreParts Is (part_kinds.Name ∷ ks) ps
+      → (n : Name) × (rest : Parts) × (ps ≡ part_more (label n) rest) × AreParts Is ks rest
+  name_first ks no_parts law = absurd law
+  name_first ks (part_more (label n) ps) law = (n, ps, refl, law.1)
+  name_first ks (part_more _ ps) law = absurd law.0
+
+  scope_first : (ks : List PartKind) (ps : Parts) → AreParts Is (part_kinds.ScopeName ∷ ks) ps
+      → (n : Name) × (rest : Parts) × (ps ≡ part_more (label n) rest) × AreParts Is ks rest
+  scope_first ks no_parts law = absurd law
+  scope_first ks (part_more (label n) ps) law = (n, ps, refl, law.1)
+  scope_first ks (part_more _ ps) law = absurd law.0
+
+  byte_first : (ks : List PartKind) (ps : Parts) → AreParts Is (part_kinds.Byte ∷ ks) ps
+      → (b : ℕ) × (rest : Parts) × (ps ≡ part_more (byte b) rest) × AreParts Is ks rest
+  byte_first ks no_parts law = absurd law
+  byte_first ks (part_more (byte b) ps) law = (b, ps, refl, law.1)
+  byte_first ks (part_more _ ps) law = absurd law.0
+
+  count_first : (ks : List PartKind) (ps : Parts) → AreParts Is (part_kinds.Count ∷ ks) ps
+      → (b : ℕ) × (rest : Parts) × (ps ≡ part_more (byte b) rest) × AreParts Is ks rest
+  count_first ks no_parts law = absurd law
+  count_first ks (part_more (byte b) ps) law = (b, ps, refl, law.1)
+  count_first ks (part_more _ ps) law = absurd law.0
+
+the_body : (s : Setting) (Is : Position → PathSet → Tree → Type 0) (p q : Position) (ls : PathSet) (r : Tail)
+    → IsTail s Is q (option_map (tail_in p) (Some tails.Body)) ls r → (start len : ℕ) × (r ≡ body start len)
+the_body s Is p q ls r law = by r (subst (λ (k : TailKind). IsTail s Is q (Some k) ls r) (kept p) law)
+  where
+    kept : (p : Position) → tail_in p tails.Body ≡ tails.Body
+    kept positions.RunTerm = refl
+    kept positions.RunAfterIf = refl
+    kept _ = refl
+    by : (r : Tail) → IsTail s Is q (Some tails.Body) ls r → (start len : ℕ) × (r ≡ body start len)
+    by (body start len) law = (start, len, refl)
+    by _ law = absurd law
+
+module _ (s : Setting) (Is : Position → PathSet → Tree → Type 0) (p q : Position) (ls : PathSet) where
+  shaped_by : (role : Role) (ks : List PartKind) (kind : Option TailKind) (ps : Parts) (r : Tail) → shape role ks kind ≡ true
+      → AreParts (λ q. Is q ls) ks ps → IsTail s Is q (option_map (tail_in p) kind) ls r → Shaped role ps r
+  unfolding shape
+  shaped_by roles.Method (part_kinds.Name ∷ part_kinds.Byte ∷ []) (Some tails.Body) ps r fit law tail =
+      let name = name_first (λ q. Is q ls) (part_kinds.Byte ∷ []) ps law in
+      let flags = byte_first (λ q. Is q ls) [] name.1 name.3 in
+      let span = the_body s Is p q ls r tail in (
+        name.0,
+        flags.0,
+        span.0,
+        span.1,
+        name.2 ∙ ap (part_more (label name.0)) (flags.2 ∙ ap (part_more (byte flags.0)) (none_left (λ q. Is q ls) flags.1 flags.3)),
+        span.2,
+      )
+  shaped_by roles.Method _ _ ps r fit law tail = absurd cc
+  shaped_by roles.Scope (part_kinds.ScopeName ∷ []) kind ps r fit law tail =
+      let name = scope_first (λ q. Is q ls) [] ps law in
+      (name.0, name.2 ∙ ap (part_more (label name.0)) (none_left (λ q. Is q ls) name.1 name.3))
+  shaped_by roles.Scope _ kind ps r fit law tail = absurd cc
+  shaped_by roles.Alias (part_kinds.Name ∷ part_kinds.Name ∷ []) kind ps r fit law tail =
+      let source = name_first (λ q. Is q ls) (part_kinds.Name ∷ []) ps law in
+      let name = name_first (λ q. Is q ls) [] source.1 source.3 in (
+        source.0,
+        name.0,
+        source.2 ∙ ap (part_more (label source.0)) (name.2 ∙ ap (part_more (label name.0)) (none_left (λ q. Is q ls) name.1 name.3)),
+      )
+  shaped_by roles.Alias _ kind ps r fit law tail = absurd cc
+  shaped_by roles.External (part_kinds.Name ∷ part_kinds.Byte ∷ part_kinds.Count ∷ []) kind ps r fit law tail =
+      let name = name_first (λ q. Is q ls) (part_kinds.Byte ∷ part_kinds.Count ∷ []) ps law in
+      let k = byte_first (λ q. Is q ls) (part_kinds.Count ∷ []) name.1 name.3 in
+      let count = count_first (λ q. Is q ls) [] k.1 k.3 in (
+        name.0,
+        k.0,
+        count.0,
+        name.2 ∙ ap (part_more (label name.0)) (k.2 ∙ ap (part_more (byte k.0)) (count.2
+            ∙ ap (part_more (byte count.0)) (none_left (λ q. Is q ls) count.1 count.3))),
+      )
+  shaped_by roles.External _ kind ps r fit law tail = absurd cc
+  shaped_by _ ks kind ps r fit law tail = tt
+
+pub shaped : (s : Setting) (Is : Position → PathSet → Tree → Type 0) (p : Position) (ls : PathSet) (o : ℕ)
+    (w : Option PkgWidth) (ps : Parts) (r : Tail) → IsOperation s Is p ls o w ps r → Shaped (role_of o) ps r
+shaped s Is p ls o w ps r law =
+    subst (λ (role : Role). Shaped role ps r) (sym (role_is o law.row law.listed))
+    (shaped_by s Is p (terms_in p (law.row).place) ls (law.row).role (law.row).parts (law.row).tail ps r
+    (row_shape o law.row law.listed) law.parts law.tail)
+
+named : {A B : Type 0} (f : A → Option B) (o : Option A) (y : B) → option_and_then f o ≡ Some y → (x : A) × (o ≡ Some x)
+named f None y is = absurd cc
+named f (Some x) y is = (x, refl)
+
+module _ (site : Where) (es : List Entry) (fs : List Entry) (below : Where) where
+  -- as a role does by the parts of its rows
+  pub does_is : (r : Role) (ps : Parts) (x : Tail) → Shaped r ps x → DoesBy r site es ps x fs below
+      → Does r site es ps x fs below
+  does_is (roles.Declares o) ps x shape (path, adds, stands) =
+      let n = named (placed site.scope) (last_label None ps) below.scope path in (
+        n.0,
+        n.1,
+        subst (λ (name : Option Name). AddsBy site es name (plain_entry site es (kind_of o)) fs) n.1 adds,
+        subst (λ (name : Option Name). IsPath site name below.scope) n.1 path,
+        stands,
+      )
+  does_is roles.Method ps x (n, flags, start, len, parts, tail) h =
+      let there = subst (λ (y : Tail). DoesBy roles.Method site es (part_more (label n) (part_more (byte flags) no_parts)) y fs below) tail
+      (subst (λ (qs : Parts). DoesBy roles.Method site es qs x fs below) parts h) in
+      subst (λ (qs : Parts). Does roles.Method site es qs x fs below) (sym parts)
+      (subst (λ (y : Tail). Does roles.Method site es (part_more (label n) (part_more (byte flags) no_parts)) y fs below) (sym tail) there)
+  does_is roles.Scope ps x (n, parts) h =
+      subst (λ (qs : Parts). Does roles.Scope site es qs x fs below) (sym parts) (subst (λ (qs : Parts). DoesBy roles.Scope site es qs x fs below) parts h)
+  does_is roles.Alias ps x (source, n, parts) h =
+      subst (λ (qs : Parts). Does roles.Alias site es qs x fs below) (sym parts) (subst (λ (qs : Parts). DoesBy roles.Alias site es qs x fs below) parts h)
+  does_is roles.External ps x (n, k, count, parts) h =
+      subst (λ (qs : Parts). Does roles.External site es qs x fs below) (sym parts)
+      (subst (λ (qs : Parts). DoesBy roles.External site es qs x fs below) parts h)
+  does_is _ ps x shape h = h
+
+  pub does_so : (r : Role) (ps : Parts) (x : Tail) → Does r site es ps x fs below → DoesBy r site es ps x fs below
+  does_so (roles.Declares o) ps x (n, is, adds, path, stands) = (
+    subst (λ (name : Option Name). IsPath site name below.scope) (sym is) path,
+    subst (λ (name : Option Name). AddsBy site es name (plain_entry site es (kind_of o)) fs) (sym is) adds,
+    stands,
+  )
+  does_so roles.Method (part_more (label n) (part_more (byte flags) no_parts)) (body start len) h = h
+  does_so roles.Method _ _ h = absurd h
+  does_so roles.Scope (part_more (label n) no_parts) x h = h
+  does_so roles.Scope _ x h = absurd h
+  does_so roles.Alias (part_more (label source) (part_more (label n) no_parts)) x h = h
+  does_so roles.Alias _ x h = absurd h
+  does_so roles.External (part_more (label n) (part_more (byte k) (part_more (byte count) no_parts))) x h = h
+  does_so roles.External _ x h = absurd h
+  does_so _ ps x h = h
 
 -- ---- steps that give something
 
@@ -138,14 +348,14 @@ module _ (site : Where) (l : Listed) where
       (free_so site.any_run (declared_at l.entries p) new)
 
   module _ (n : Option Name) (entry : List Seg → Entry) where
-    new_is : (m : Listed) → new_at site l n entry ≡ Ok m → Lists l m (Adds site l.entries n entry)
+    new_is : (m : Listed) → new_at site l n entry ≡ Ok m → Lists l m (AddsBy site l.entries n entry)
     unfolding new_at
     new_is m is =
         let at = bound (place_at site n) _ m is in
         let one = entry_is at.0 (entry at.0) m at.2 in
         ((at.0, place_is site l.entries n at.0 at.1, one.0, sym (ap (λ (k : Listed). k.entries) one.1)), sym (ap (λ (k : Listed). k.uses) one.1))
 
-    new_so : (fs : List Entry) → Adds site l.entries n entry fs → new_at site l n entry ≡ Ok (with_entries l fs)
+    new_so : (fs : List Entry) → AddsBy site l.entries n entry fs → new_at site l n entry ≡ Ok (with_entries l fs)
     unfolding new_at
     new_so fs (p, at, new, same) =
         ap (λ (r : Result (List Seg) LoadFault). r >>= λ p. entry_at site l p (entry p)) (place_so site l.entries n p at)
@@ -189,14 +399,14 @@ has_room es fs x one same few =
 
 module _ (site : Where) (l : Listed) (ps : Parts) (x : Tail) (inside : Listed → Where → Result Listed LoadFault) (below : Where) where
   pub flat_is : (r : Role) (m : Listed) → is_flat r ≡ true → declare_as r site l ps x inside ≡ Ok m
-      → Lists l m (λ fs. Does r site l.entries ps x fs below)
+      → Lists l m (λ fs. DoesBy r site l.entries ps x fs below)
   unfolding declare_as method_at alias_at external_at
   flat_is roles.Method m flat is = by (nat_le most_methods (length (methods_of l.entries))) is
     where
       entry : List Seg → Entry
       entry = method_entry site l.entries (byte_of ps) (body_span x)
       by : (full : Bool) → cond full (Err loads.TooManyMethods) (new_at site l (last_label None ps) entry) ≡ Ok m
-          → Lists l m (Adds site l.entries (last_label None ps) entry)
+          → Lists l m (AddsBy site l.entries (last_label None ps) entry)
       by true h = absurd cc
       by false h = new_is site l (last_label None ps) entry m h
   flat_is roles.Alias m flat is =
@@ -211,7 +421,7 @@ module _ (site : Where) (l : Listed) (ps : Parts) (x : Tail) (inside : Listed �
   flat_is _ m flat is = absurd cc
 
   pub flat_so : (r : Role) (fs : List Entry) → is_flat r ≡ true → length (methods_of fs) ≤ most_methods
-      → Does r site l.entries ps x fs below → declare_as r site l ps x inside ≡ Ok (with_entries l fs)
+      → DoesBy r site l.entries ps x fs below → declare_as r site l ps x inside ≡ Ok (with_entries l fs)
   unfolding declare_as method_at alias_at external_at
   flat_so roles.Method fs flat few new =
       let entry : List Seg → Entry = method_entry site l.entries (byte_of ps) (body_span x) in
@@ -254,7 +464,7 @@ module _ (t : ℕ) (scope : List Seg) (l : Listed) (ps : Parts) (x : Tail) (insi
       ((s : List Seg) × (below ≡ strict t s) × (inside k (strict t s) ≡ Ok m)) ⊎ ((goes_in r ≡ false) × (k ≡ m))
 
   pub strict_is : (r : Role) (m : Listed) → declare_as r here l ps x inside ≡ Ok m
-      → (k : Listed) × (below : Where) × Lists l k (λ fs. Does r here l.entries ps x fs below) × Goes r k below m
+      → (k : Listed) × (below : Where) × Lists l k (λ fs. DoesBy r here l.entries ps x fs below) × Goes r k below m
   unfolding declare_as
   strict_is (roles.Declares o) m is =
       let n = last_label None ps in
@@ -285,7 +495,7 @@ module _ (t : ℕ) (scope : List Seg) (l : Listed) (ps : Parts) (x : Tail) (insi
       ⊎ ((goes_in r ≡ false) × (declare_as r here l ps x inside ≡ Ok (with_entries l gs)))
 
   pub strict_so : (r : Role) (gs : List Entry) (below : Where) → length (methods_of gs) ≤ most_methods
-      → Does r here l.entries ps x gs below → GoesSo r gs below
+      → DoesBy r here l.entries ps x gs below → GoesSo r gs below
   unfolding declare_as
   strict_so (roles.Declares o) gs below few (path, (p, at, new, same), stands) =
       let n = last_label None ps in
@@ -368,7 +578,7 @@ module _ (t : ℕ) (s : List Seg) (b : Bool) (l : Listed) (ps : Parts) (x : Tail
   -- what is there then, and where the terms inside stand
   abbrev pub EntersIs : Role → Front → Type 0
   EntersIs r inner = (k : Listed) × (d : List Seg) × (c : Bool) × (inner ≡ front t d c k)
-      × Lists l k (λ fs. Does r at_front l.entries ps x fs (run_site t d c))
+      × Lists l k (λ fs. DoesBy r at_front l.entries ps x fs (run_site t d c))
 
   flat_enters : (r : Role) (inner : Front) → is_flat r ≡ true → flat_step r ≡ Ok inner → EntersIs r inner
   flat_enters r inner flat is =
@@ -415,12 +625,12 @@ module _ (t : ℕ) (s : List Seg) (b : Bool) (l : Listed) (ps : Parts) (x : Tail
       × ((below ≡ run_site t d c) ⊎ (is_flat r ≡ true))
 
   flat_enters_so : (r : Role) (gs : List Entry) (below : Where) → is_flat r ≡ true → length (methods_of gs) ≤ most_methods
-      → Does r at_front l.entries ps x gs below → flat_step r ≡ on_front (with_entries l gs)
+      → DoesBy r at_front l.entries ps x gs below → flat_step r ≡ on_front (with_entries l gs)
   flat_enters_so r gs below flat few does =
       ap (λ (r : Result Listed LoadFault). r >>= on_front) (flat_so at_front l ps x (λ l site. Ok l) below r gs flat few does)
 
   pub enter_so : (r : Role) (gs : List Entry) (below : Where) → length (methods_of gs) ≤ most_methods
-      → Does r at_front l.entries ps x gs below → EntersSo r gs below
+      → DoesBy r at_front l.entries ps x gs below → EntersSo r gs below
   unfolding enter_as object_at scope_at opened_at
   enter_so (roles.Declares o) gs below few (path, (p, at, new, same), stands) =
       let entry : List Seg → Entry = plain_entry at_front l.entries (kind_of o) in

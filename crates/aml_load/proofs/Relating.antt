@@ -35,6 +35,7 @@ use Rattle.aml_load.specs.Loads.{InsideDeclares, TermsRead, TermReads, TableLoad
 use Rattle.aml_load.specs.Running.{Front, table_front, entered_at, run_names}
 use Rattle.aml_load.specs.Tables.{ReadsOne, ReadTables, ListsTo}
 use Rattle.aml_load.proofs.Agreeing.{All-left, All-right, told, module_agrees, module_told, run_agrees, run_told}
+use Rattle.aml_load.proofs.Doing.{DoesBy, Shaped, shaped, does_is, does_so}
 use Rattle.aml_load.proofs.Doing.{bound, with_entries, Lists, goes_in, Goes, GoesSo, strict_is, strict_so, run_site, front, EntersIs}
 use Rattle.aml_load.proofs.Doing.{EntersSo, enter_is, enter_so, is_flat}
 use Rattle.aml_load.proofs.Holding.{methods_more}
@@ -61,14 +62,17 @@ units_fewer site es (n ∷ ns) fs (gs, new, rest) = omega (arith, one_fewer es g
 
 does_fewer : (r : Role) (site : Where) (es : List Entry) (ps : Parts) (x : Tail) (fs : List Entry) (below : Where)
     → Does r site es ps x fs below → Fewer es fs
-does_fewer (roles.Declares o) site es ps x fs below h = one_fewer es fs _ h.1.3
-does_fewer roles.Method site es ps x fs below h = one_fewer es fs _ h.3
-does_fewer roles.Scope site es ps x fs below h = same_fewer es fs h.1
-does_fewer roles.Alias site es ps x fs below h = one_fewer es fs _ h.2.3
-does_fewer roles.External site es ps x fs below h = one_fewer es fs _ h.2
-does_fewer roles.Fields site es ps x fs below h = units_fewer site es (field_names x) fs h
-does_fewer roles.Guard site es ps x fs below h = same_fewer es fs h.0
-does_fewer roles.Other site es ps x fs below h = same_fewer es fs h.0
+does_fewer r site es ps x fs below does = by r (does_so site es fs below r ps x does)
+  where
+    by : (r : Role) → DoesBy r site es ps x fs below → Fewer es fs
+    by (roles.Declares o) h = one_fewer es fs _ h.1.3
+    by roles.Method h = one_fewer es fs _ h.3
+    by roles.Scope h = same_fewer es fs h.1
+    by roles.Alias h = one_fewer es fs _ h.2.3
+    by roles.External h = one_fewer es fs _ h.2
+    by roles.Fields h = units_fewer site es (field_names x) fs h
+    by roles.Guard h = same_fewer es fs h.0
+    by roles.Other h = same_fewer es fs h.0
 
 head_fewer : (site : Where) (es : List Entry) (x : Tree) (fs : List Entry) (below : Where) → DoesTerm site es x fs below
     → Fewer es fs
@@ -234,7 +238,8 @@ module _ (z : Bool) (last : List Entry) (code : List ℕ) where
           let inner = goes_is levels q kind k m r did.1 (role_of o) here tail
           (λ s into. inside_is levels q kind s k m r (omega (arith, less)) fit.1 tail into all) did.3 all in
           let uses = both l.uses (term_uses (strict t scope) (op o w ps r)) k.uses did.2.1 inner.1 in
-          ((k.entries, did.1, module_agrees code z last (strict t scope) o w ps r no_arguments (suc levels) p less h law uses.1, did.2.0, inner.0), uses.0)
+          ((k.entries, did.1, module_agrees code z last (strict t scope) o w ps r no_arguments (suc levels) p less h law uses.1,
+              does_is (strict t scope) l.entries k.entries did.1 (role_of o) ps r (shaped read (IsLawful read levels) p set.empty o w ps r law) did.2.0, inner.0), uses.0)
 
       inside_is : (levels : ℕ) (q : Position) (kind : Option TailKind) (scope : List Seg) (l m : Listed) (r : Tail) → levels ≤ 512
           → (kind ≡ Some tails.Terms → takes_names q ≡ false) → IsKind levels q kind r
@@ -306,7 +311,7 @@ module _ (z : Bool) (last : List Entry) (code : List ℕ) where
           let asked = with_uses site l (op o w ps r) in
           let uses = one l.uses (term_uses site (op o w ps r)) asked.uses refl all (module_told code z last site o w ps r agrees) in
           let did = strict_so t scope asked ps r (λ l below. declare_inside below l r) (role_of o) gs below
-          (omega (arith, few, inside_fewer z last code below gs r fs inner)) does in
+          (omega (arith, few, inside_fewer z last code below gs r fs inner)) (does_so site l.entries gs below (role_of o) ps r does) in
           goes_so scope o w ps r asked gs below fs agrees inner uses did
           (λ s there. inside_so s (with_entries asked gs) r fs few there uses)
 
@@ -319,21 +324,32 @@ module _ (z : Bool) (last : List Entry) (code : List ℕ) where
 -- ---- the terms of a table that is read from the left
 
 module _ (z : Bool) (last : List Entry) (code : List ℕ) (t : ℕ) where
+  -- the parts of a term are those of its role
+  abbrev Formed : Tree → Type 0
+  Formed (op o w ps r) = Shaped (role_of o) ps r
+  Formed x = Unit {0}
+
+  formed : (s : Setting) (levels : ℕ) (p : Position) (x : Tree) → IsLawful s levels p set.empty x → Formed x
+  formed s levels p nothing law = tt
+  formed s levels p (named n ts) law = tt
+  formed s zero p (op o w ps r) law = absurd law
+  formed s (suc levels) p (op o w ps r) law = shaped s (IsLawful s levels) p set.empty o w ps r law
+
   -- a term's head, in front of what is inside it
-  head_is : (s : List Seg) (b : Bool) (l : Listed) (head : Tree) (inner : Front) → entered_at (front t s b l) head ≡ Ok inner
+  head_is : (s : List Seg) (b : Bool) (l : Listed) (head : Tree) (inner : Front) → Formed head → entered_at (front t s b l) head ≡ Ok inner
       → (k : Listed) × (d : List Seg) × (c : Bool) × (inner ≡ front t d c k)
       × DoesTerm (run_site t s b) l.entries head k.entries (run_site t d c)
       × (k.uses ≡ l.uses ++ term_uses (run_site t s b) head)
   unfolding entered_at
-  head_is s b l nothing inner is =
+  head_is s b l nothing inner form is =
       let same : front t s b (with_uses (run_site t s b) l nothing) ≡ inner = cc in
       (with_uses (run_site t s b) l nothing, s, b, sym same, refl, refl)
-  head_is s b l (named n ts) inner is =
+  head_is s b l (named n ts) inner form is =
       let same : front t s b (with_uses (run_site t s b) l (named n ts)) ≡ inner = cc in
       (with_uses (run_site t s b) l (named n ts), s, b, sym same, refl, refl)
-  head_is s b l (op o w ps r) inner is =
+  head_is s b l (op o w ps r) inner form is =
       let did = enter_is t s b (with_uses (run_site t s b) l (op o w ps r)) ps r (role_of o) inner is in
-      (did.0, did.1, did.2, did.3, did.4.0, did.4.1)
+      (did.0, did.1, did.2, did.3, does_is (run_site t s b) l.entries (did.0).entries (run_site t did.1 did.2) (role_of o) ps r form did.4.0, did.4.1)
 
   mutual
     read_is : (levels : ℕ) (p : Position) (at end : ℕ) (s : List Seg) (b : Bool) (l : Listed) (ts : Trees) (g : Front)
@@ -346,7 +362,7 @@ module _ (z : Bool) (last : List Entry) (code : List ℕ) (t : ℕ) where
     )
     read_is levels p at end s b l (tree_more x xs) g less run (head, behind, inner, ended, step, is, opens, rest) all =
         let there = read_is levels (next_position p head) behind end s b ended.listed xs g less (runs_on p head run) rest all in
-        let did = head_is s b l head inner is in
+        let did = head_is s b l head inner (formed _ levels p head step.lawful) is in
         let k = did.0 in
         let inside = opened_is levels head did.1 did.2 k x ended less
         (subst (λ (f : Front). Opens (run_names t) code levels head f x ended) did.3 opens) there.1 in
@@ -384,7 +400,8 @@ module _ (z : Bool) (last : List Entry) (code : List ℕ) (t : ℕ) where
   head_so s b l (named n ts) inner below few same =
       (s, b, ap (λ es. Ok (front t s b (with_entries (with_uses (run_site t s b) l (named n ts)) es))) same, inr tt)
   head_so s b l (op o w ps r) inner below few does =
-      enter_so t s b (with_uses (run_site t s b) l (op o w ps r)) ps r (role_of o) inner below few does
+      enter_so t s b (with_uses (run_site t s b) l (op o w ps r)) ps r (role_of o) inner below few
+      (does_so (run_site t s b) l.entries inner below (role_of o) ps r does)
 
   block_stands : (head : Tree) (below site : Where) → is_block head ≡ true → (below ≡ site) ⊎ Flat head → below ≡ site
   block_stands head below site block (inl same) = same

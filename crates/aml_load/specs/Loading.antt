@@ -214,9 +214,11 @@ method_entry site es flags span p = declares p (kinds.Method (flags % 8))
     (Some (record { table = site.table; start = span.0; len = span.1; flags = flags })) (sure_here site es p)
 
 -- what a name leads to at a site, among the entries so far; where the code outside methods may run, in every run
+abbrev pub leads : Where → List Entry → Name → Option (List Seg)
+leads site es = cond site.any_run (agreed_path (outlook_of es) site.scope) (found (namespace_of es) set.empty site.scope)
+
 abbrev pub lead_of : Where → List Entry → Option Name → Option (List Seg)
-lead_of site es n = option_and_then
-    (cond site.any_run (agreed_path (outlook_of es) site.scope) (found (namespace_of es) set.empty site.scope)) n
+lead_of site es n = option_and_then (leads site es) n
 
 -- what an Alias of a path stands for: the path, or that path's own target if it is an Alias
 abbrev pub target_by : Option Kind → List Seg → List Seg
@@ -228,7 +230,8 @@ target_of es p = target_by (kind_at (namespace_of es) p) p
 
 -- the entry of an Alias of a source, which is declared in every run only where its source has a kind in every run
 abbrev pub alias_entry : Where → List Entry → List Seg → List Seg → Entry
-alias_entry site es source p = declares p (kinds.Alias (open_in (outlook_of es) source) (target_of es source)) None
+alias_entry site es source p = declares p
+    (kinds.Alias (open_in (outlook_of es) source) (target_by (kind_at (namespace_of es) source) source)) None
     (sure_with site es (parent_of p ∷ source ∷ []))
 
 -- ---- What a term declares: what is listed behind it, or the fault at which the load stops.

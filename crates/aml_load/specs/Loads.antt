@@ -1,8 +1,8 @@
 -- What tables load to: the terms that their AML reads as, and one list of entries (ACPI 6.5, 5.2.11, 5.3, 20.2.5.1 and
 -- 20.2.5.2).
 use Rattle.std.specs.Prelude.{◌≡◌, ◌≤◌, ℕ, suc, ◌+◌, ◌-◌, Bool, true, false, not, ◌&&◌, ◌||◌, cond, List, [], ◌∷◌, ◌++◌}
-use Rattle.std.specs.Prelude.{length, Option, Some, None, is_some}
-use Rattle.std.specs.Option.{option_and_then, option_or, unwrap_or}
+use Rattle.std.specs.Prelude.{length, map, Option, Some, None, is_some}
+use Rattle.std.specs.Option.{option_or, unwrap_or}
 use Rattle.std.specs.FinSet as set
 use Rattle.aml_names.specs.declared.segments.Seg.{Seg}
 use Rattle.aml_names.specs.declared.names.Name.{Name}
@@ -13,64 +13,54 @@ use Rattle.aml_code.specs.declared.rows.Role.{Role}
 use Rattle.aml_code.specs.declared.rows.Role.TheVariants as roles
 use Rattle.aml_code.specs.Faults.{Arities, most_levels}
 use Rattle.aml_code.specs.Lawful.{last_label, field_names, setting_of, IsLawful, ReadsModule, ReadsStep, next_position}
-use Rattle.aml_code.specs.Tree.{Tree, op, Trees, no_trees, tree_more, Parts, Tail, terms, body}
+use Rattle.aml_code.specs.Tree.{Tree, op, Trees, no_trees, tree_more, Parts, no_parts, part_more, label, byte, Tail, terms, body}
 use Rattle.aml_parse.specs.Running.{is_block}
 use Rattle.aml_namespace.specs.declared.kinds.Kind.TheVariants as kinds
-use Rattle.aml_namespace.specs.Namespace.{Entry, Givens, external, given_entries, declared_at, namespace_of, found}
+use Rattle.aml_namespace.specs.Namespace.{Entry, external, given, declared_at, namespace_of, found}
 use Rattle.aml_namespace.specs.Runs.{outlook_of, scope_in, agreed_arity}
-use Rattle.aml_load.specs.Loading.{role_of, kind_of, Where, in_declaration, methods_of, most_methods, first_label, byte_of}
-use Rattle.aml_load.specs.Loading.{body_span, sure_here, plain_entry, method_entry, lead_of, alias_entry}
+use Rattle.aml_load.specs.Loading.{role_of, kind_of, Where, in_declaration, methods_of, sure_here, plain_entry}
+use Rattle.aml_load.specs.Loading.{method_entry, leads, alias_entry}
 
 -- ---- What a term declares itself.
 
--- the path of a name at a site, without a search
-abbrev pub IsPath : Where → Option Name → List Seg → Type 0
-IsPath site n p = option_and_then (placed site.scope) n ≡ Some p
-
 -- One entry more, of the path of a name. Something may declare it already only where the code outside methods may run.
-abbrev pub Adds : Where → List Entry → Option Name → (List Seg → Entry) → List Entry → Type 0
-Adds site es n entry fs = (p : List Seg) × IsPath site n p × (site.any_run ≡ false → declared_at es p ≡ None)
-    × (fs ≡ es ++ entry p ∷ [])
+abbrev pub Adds : Where → List Entry → Name → (List Seg → Entry) → List Entry → Type 0
+Adds site es n entry fs = (p : List Seg) × (placed site.scope n ≡ Some p)
+    × (site.any_run ≡ false → declared_at es p ≡ None) × (fs ≡ es ++ entry p ∷ [])
 
 -- the named units of a field list (20.2.5.2), each under its segment in the scope
 abbrev pub AddsUnits : Where → List Entry → List Name → List Entry → Type 0
 AddsUnits site es [] fs = es ≡ fs
 AddsUnits site es (n ∷ ns) fs =
-    (gs : List Entry) × Adds site es (Some n) (plain_entry site es kinds.Field) gs × AddsUnits site gs ns fs
+    (gs : List Entry) × Adds site es n (plain_entry site es kinds.Field) gs × AddsUnits site gs ns fs
 
 -- The path that a Scope opens: the one to which its name leads. Where the code outside methods may run, its own where
 -- nothing at all is there.
-abbrev pub opened : Where → List Entry → Option Name → Option (List Seg)
-opened site es n = option_or (lead_of site es n)
-    (cond (site.any_run && not (is_some (option_and_then (found (namespace_of es) set.empty site.scope) n)))
-    (option_and_then (placed site.scope) n) None)
+abbrev pub opened : Where → List Entry → Name → Option (List Seg)
+opened site es n = option_or (leads site es n)
+    (cond (site.any_run && not (is_some (found (namespace_of es) set.empty site.scope n))) (placed site.scope n) None)
 
--- Where the terms inside an object stand, a Scope, and another term. An interpreter passes over what is inside an object
--- whose path is declared already, and inside a Scope of what is no scope; and If, Else and While may not run.
-abbrev pub in_object : Where → List Entry → List Seg → Where
-in_object site es p = record site { scope = p; sure = sure_here site es p && not (is_some (declared_at es p)) }
-
-abbrev pub in_scope : Where → List Entry → List Seg → Where
-in_scope site es p = record site { scope = p; sure = site.sure && (not site.any_run || scope_in (outlook_of es) p) }
-
-abbrev pub in_block : Where → Where
-in_block site = record site { sure = not site.any_run && site.sure }
-
--- What a term does by its role at a site, behind these entries: then these are there, and the terms inside it stand at
--- that site.
+-- What a term does by its role at a site, behind these entries: then these are there, and the terms inside it stand
+-- below. An interpreter passes over what is inside an object whose path is declared already, and inside a Scope of what
+-- is no scope; and what is inside an If, an Else or a While may not run.
 abbrev pub Does : Role → Where → List Entry → Parts → Tail → List Entry → Where → Type 0
-Does (roles.Declares o) site es ps r fs below = IsPath site (last_label None ps) below.scope
-    × Adds site es (last_label None ps) (plain_entry site es (kind_of o)) fs × (below ≡ in_object site es below.scope)
-Does roles.Method site es ps r fs below =
-    Adds site es (last_label None ps) (method_entry site es (byte_of ps) (body_span r)) fs
-Does roles.Scope site es ps r fs below =
-    (opened site es (last_label None ps) ≡ Some below.scope) × (es ≡ fs) × (below ≡ in_scope site es below.scope)
-Does roles.Alias site es ps r fs below = (source : List Seg) × (lead_of site es (first_label ps) ≡ Some source)
-    × Adds site es (last_label None ps) (alias_entry site es source) fs
-Does roles.External site es ps r fs below =
-    (p : List Seg) × IsPath site (last_label None ps) p × (fs ≡ es ++ external p (byte_of ps) ∷ [])
+Does (roles.Declares o) site es ps r fs below = (n : Name) × (last_label None ps ≡ Some n)
+    × Adds site es n (plain_entry site es (kind_of o)) fs × (placed site.scope n ≡ Some below.scope)
+    × (below ≡ record site { scope = below.scope; sure =
+    sure_here site es below.scope && not (is_some (declared_at es below.scope)) })
+Does roles.Method site es (part_more (label n) (part_more (byte flags) no_parts)) (body start len) fs below =
+    Adds site es n (method_entry site es flags (start, len)) fs
+Does roles.Scope site es (part_more (label n) no_parts) r fs below =
+    (opened site es n ≡ Some below.scope) × (es ≡ fs) × (below ≡ record site { scope = below.scope; sure =
+    site.sure && (not site.any_run || scope_in (outlook_of es) below.scope) })
+Does roles.Alias site es (part_more (label source) (part_more (label n) no_parts)) r fs below =
+    (p : List Seg) × (leads site es source ≡ Some p) × Adds site es n (alias_entry site es p) fs
+Does roles.External site es (part_more (label n) (part_more (byte k) (part_more (byte count) no_parts))) r fs below =
+    (p : List Seg) × (placed site.scope n ≡ Some p) × (fs ≡ es ++ external p count ∷ [])
 Does roles.Fields site es ps r fs below = AddsUnits site es (field_names r) fs
-Does _ site es ps r fs below = (es ≡ fs) × (below ≡ in_block site)
+Does roles.Guard site es ps r fs below = (es ≡ fs) × (below ≡ record site { sure = not site.any_run && site.sure })
+Does roles.Other site es ps r fs below = (es ≡ fs) × (below ≡ record site { sure = not site.any_run && site.sure })
+Does _ site es ps r fs below = ⊥
 
 -- a term, which does nothing without an opcode
 abbrev pub DoesTerm : Where → List Entry → Tree → List Entry → Where → Type 0
@@ -149,9 +139,9 @@ TablesLoad any_run z last t es (c ∷ cs) (ts ∷ rest) fs =
     (gs : List Entry) × TableLoads any_run z last t es c ts gs × TablesLoad any_run z last (suc t) gs cs rest fs
 TablesLoad any_run z last t es _ _ fs = ⊥
 
--- The tables' AML reads as these trees, and these load to these entries, behind the counts that the user gives; and
--- there aren't more methods than a set may have.
-pub record LoadsTo (any_run unknown_zero : Bool) (gs : Givens) (tables : List (List ℕ)) (trees : List Trees)
-    (es : List Entry) : Type 0 where
-  pub read : TablesLoad any_run unknown_zero es 0 (given_entries gs) tables trees es
-  pub few : length (methods_of es) ≤ most_methods
+-- The tables' AML reads as these trees, and these load to these entries, behind the counts that the user gives to paths;
+-- and a set has no more methods.
+pub record LoadsTo (any_run unknown_zero : Bool) (gs : List (List Seg × ℕ)) (tables : List (List ℕ))
+    (trees : List Trees) (es : List Entry) : Type 0 where
+  pub read : TablesLoad any_run unknown_zero es 0 (map (λ g. given g.0 g.1) gs) tables trees es
+  pub few : length (methods_of es) ≤ 1048576
