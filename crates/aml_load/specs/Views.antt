@@ -1,7 +1,7 @@
 -- What a loaded set is the load of, and what the bodies of its methods read as.
-use Rattle.std.specs.Prelude.{◌≡◌, ℕ, List, Option, Some, None, ◌≢◌, Bool, ◌⊎◌}
+use Rattle.std.specs.Prelude.{◌≡◌, ℕ, List, [], slice_index_or, Option, Some, None, ◌≢◌, Bool, ◌⊎◌}
 use Rattle.std.specs.Prelude.{Result, Ok, Err}
-use Rattle.aml_code.specs.Tree.{Trees}
+use Rattle.aml_code.specs.Tree.{Trees, slice_of}
 use Rattle.aml_namespace.specs.Known.{Known, StandsFor}
 use Rattle.aml_set.specs.declared.loaded.Loaded.{Loaded}
 use Rattle.aml_set.specs.declared.methods.Method.{Method}
@@ -34,10 +34,10 @@ pub record HoldsTables (x : TableSet) (codes : List (List ℕ)) (ts : List Trees
 
 -- ---- The bodies of methods, each read in the namespace of all entries (ACPI 6.5, 5.3 and 20.2.5).
 
--- the body of a method reads as these terms
+-- the body of a method, a span of its table, reads as these terms
 abbrev pub IsBody : Bool → List Entry → List (List ℕ) → Method → Trees → Type 0
 IsBody unknown_zero es tables m ts = ReadsBody (agreed_arity (outlook_of es) unknown_zero m.path) m.path
-    (span_of tables m) ts
+    (slice_of (slice_index_or tables m.table []) m.start m.len) ts
 
 -- the body of a method reads as no terms, for this reason, which is true of the byte at its offset in the body
 pub record IsUnread (unknown_zero : Bool) (es : List Entry) (tables : List (List ℕ)) (m : Method)
