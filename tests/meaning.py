@@ -249,7 +249,7 @@ class Page:
     def fault_types(self):
         """The types of FAULTS, behind all that an Ok is made of."""
         types = [it for name in FAULTS[1] for (_, other), it in self.sources.types.items() if other == name]
-        self.lines += [f"## {FAULTS[0]}", "", "An Ok has none of these: of them its definitions need only that an `Err` is no `Ok`.", ""]
+        self.lines += [f"## {FAULTS[0]}", "", "No definition of what an Ok means names these.", ""]
         self.block("rust", [line for it in types for line in [*it.lines, ""]])
         self.parts.append((FAULTS[0], [], types))
 
