@@ -6,8 +6,7 @@ use Rattle.aml_names.specs.declared.segments.Seg.{Seg}
 use Rattle.aml_code.specs.Tree.{Trees}
 use Rattle.aml_namespace.specs.Namespace.{Entry}
 use Rattle.aml_namespace.specs.Known.{Declared, declarations_in}
-use Rattle.aml_load.specs.Loading.{methods_of}
-use Rattle.aml_load.specs.Loads.{LoadsTo}
+use Rattle.aml_load.specs.Loading.{methods_of, LoadsTo}
 use Rattle.aml_load.specs.Views.{HoldsLoad, HoldsTables}
 use Rattle.aml_set.specs.Views.{table_dumps}
 use Rattle.aml_set.specs.declared.loaded.Loaded.{Loaded}

@@ -3,7 +3,7 @@
 use Rattle.std.specs.List.{All}
 use Rattle.std.specs.FinSet as set
 use Rattle.std.proofs.Common.{◌≡◌, ◌≤◌, ℕ, zero, suc, ◌+◌, ◌-◌, Bool, true, false, not, ◌||◌, cond, List, [], ◌∷◌, ◌++◌, length, Option}
-use Rattle.std.proofs.Common.{Some, None, refl, sym, ap, subst, ◌∙◌, arith}
+use Rattle.std.proofs.Common.{Some, None, refl, sym, ap, subst, arith}
 use Rattle.std.specs.Option.{option_map, unwrap_or}
 use Rattle.std.proofs.lemmas.List.{length-append}
 use Rattle.std.proofs.lemmas.List.Elements.{All-nil, All-cons, All-head, All-tail, All-append}
@@ -21,10 +21,10 @@ use Rattle.aml_code.specs.declared.rows.TailKind.TheVariants as tails
 use Rattle.aml_code.specs.Faults.{Arities}
 use Rattle.aml_code.specs.Lawful.{Setting, setting_of, count_in, IsLawful, IsOperation, TermsStand, IsTail, IsPart, AreParts}
 use Rattle.aml_code.specs.Lawful.{IsField, AreFields, HasWidth, next_position, terms_in, tail_in, after}
-use Rattle.aml_code.specs.Opcodes.{Row, rows, row_of, takes, takers}
+use Rattle.aml_code.specs.Opcodes.{Row, rows, row_of, takes}
 use Rattle.aml_code.specs.Packages.{FitsWidth, width_len}
 use Rattle.aml_code.specs.Tree.{Tree, nothing, named, op, Trees, no_trees, tree_more, Part, child, Parts, no_parts}
-use Rattle.aml_code.specs.Tree.{part_more, Tail, terms, elements, fields, body, empty, Field, connection, Fields, no_fields}
+use Rattle.aml_code.specs.Tree.{part_more, Tail, terms, elements, fields, empty, Field, connection, Fields, no_fields}
 use Rattle.aml_code.specs.Tree.{field_more, target, buffer, tree_count, parts_encoding, tail_encoding}
 use Rattle.aml_code.proofs.InnerLaws.{is_inner, unchanged}
 use Rattle.aml_code.proofs.LevelLaws.{deeper_by}
@@ -34,9 +34,9 @@ use Rattle.aml_parse.specs.Reading.{takes_names}
 use Rattle.aml_parse.proofs.Forward.{is_run}
 use Rattle.aml_namespace.specs.Namespace.{Entry}
 use Rattle.aml_namespace.specs.Runs.{outlook_of, agreed_arity}
-use Rattle.aml_load.specs.Loading.{Where, Use, use_of, use_count, in_declaration, kinds_in, is_argument, uses_in, all_uses}
-use Rattle.aml_load.specs.Loading.{parts_uses, part_uses, tail_uses, fields_uses, field_uses, term_uses}
-use Rattle.aml_load.specs.Loads.{emptied, Agrees}
+use Rattle.aml_load.specs.Declaring.{Use, use_of, use_count, kinds_in, is_argument, uses_in, all_uses, parts_uses}
+use Rattle.aml_load.specs.Declaring.{part_uses, tail_uses, fields_uses, field_uses, term_uses}
+use Rattle.aml_load.specs.Loading.{Where, in_declaration, emptied, Agrees}
 
 -- ---- the two parts of what holds of each
 

@@ -8,10 +8,11 @@ use Rattle.aml_code.specs.declared.rows.Role.TheVariants as roles
 use Rattle.aml_code.specs.Lawful.{last_label}
 use Rattle.aml_code.specs.Tree.{Tree, nothing, named, op, Trees, no_trees, tree_more, Parts, Tail, terms}
 use Rattle.aml_space.specs.declared.faults.SpaceFault.TheVariants as faults
-use Rattle.aml_namespace.specs.Namespace.{Entry, Givens}
+use Rattle.aml_namespace.specs.Namespace.{Givens}
 use Rattle.aml_load.specs.declared.faults.LoadFault.{LoadFault}
-use Rattle.aml_load.specs.Loading.{◌>>=◌, strict, Listed, first_listed, with_uses, role_of, kind_of, place_at, lead_at}
-use Rattle.aml_load.specs.Loading.{plain_entry, entry_at, declare_as, declare, declare_inside, declare_all}
+use Rattle.aml_load.specs.Declaring.{◌>>=◌, strict, Listed, first_listed, with_uses, place_at, lead_at, entry_at}
+use Rattle.aml_load.specs.Declaring.{declare_as, declare, declare_inside, declare_all}
+use Rattle.aml_load.specs.Loading.{role_of, kind_of, plain_entry}
 use Rattle.aml_load.specs.Running.{Front, table_front, asked, object_at, scope_at, enter_as, entered_at, behind_tree}
 use Rattle.aml_load.specs.Running.{behind_inside, behind_trees, behind_tables}
 use Rattle.aml_load.specs.Standing.{◌>>>◌, Standing, stands, inside_as, term_stands, inside_stand, all_stand}

@@ -1,9 +1,9 @@
 -- What a term does itself is what declaring it forward lists, and where the terms inside it stand.
 use Rattle.std.specs.FinSet as set
 use Rattle.std.specs.Option.{ok_or, option_and_then, option_map, option_or}
-use Rattle.std.proofs.Common.{◌≡◌, ◌≤◌, ◌⊎◌, inl, inr, ℕ, zero, suc, ◌-◌, ◌+◌, Bool, true, false, not, ◌&&◌, ◌||◌, cond, List, [], ◌∷◌, ◌++◌}
+use Rattle.std.proofs.Common.{◌≡◌, ◌≤◌, ◌⊎◌, inl, inr, ℕ, ◌-◌, ◌+◌, Bool, true, false, not, ◌&&◌, ◌||◌, cond, List, [], ◌∷◌, ◌++◌}
 use Rattle.std.proofs.Common.{length, Option, Some, None, is_some, Result, Ok, Err, refl, sym, ap, subst, ◌∙◌, arith, nat_le, ◌==◌}
-use Rattle.std.proofs.Common.{take, ◌%◌}
+use Rattle.std.proofs.Common.{take}
 use Rattle.std.specs.Prelude.{option_to_list}
 use Rattle.std.specs.List.{find}
 use Rattle.std.proofs.lemmas.Bool.Decides.{nat_tests}
@@ -11,12 +11,12 @@ use Rattle.std.proofs.lemmas.List.{length-append}
 use Rattle.aml_names.specs.declared.segments.Seg.{Seg}
 use Rattle.aml_names.specs.declared.names.Name.{Name}
 use Rattle.aml_names.specs.Names.{placed}
-use Rattle.aml_names.specs.Searching.{candidates, upward, is_single}
+use Rattle.aml_names.specs.Searching.{candidates, upward}
 use Rattle.aml_code.specs.declared.rows.Role.{Role}
 use Rattle.aml_code.specs.declared.rows.Role.TheVariants as roles
 use Rattle.aml_code.specs.Lawful.{last_label, field_names, Setting, IsOperation, AreParts, IsTail, terms_in, tail_in}
 use Rattle.aml_code.specs.Opcodes.{Row, rows, row_of}
-use Rattle.aml_code.specs.Tree.{Tree, Parts, no_parts, part_more, Part, label, byte, Tail, body}
+use Rattle.aml_code.specs.Tree.{Tree, Parts, no_parts, part_more, label, byte, Tail, body}
 use Rattle.aml_code.specs.declared.packages.PkgWidth.{PkgWidth}
 use Rattle.aml_code.specs.declared.rows.PartKind.{PartKind}
 use Rattle.aml_code.specs.declared.rows.PartKind.TheVariants as part_kinds
@@ -31,13 +31,14 @@ use Rattle.aml_space.specs.declared.faults.SpaceFault.TheVariants as faults
 use Rattle.aml_namespace.specs.declared.kinds.Kind.{Kind}
 use Rattle.aml_namespace.specs.declared.kinds.Kind.TheVariants as kinds
 use Rattle.aml_namespace.specs.Namespace.{Entry, external, declared_at, namespace_of, first_of, found, is_outside}
-use Rattle.aml_namespace.specs.Runs.{Outlook, outlook_of, agreed_or, first_agreed, agreed_path, scope_in}
+use Rattle.aml_namespace.specs.Runs.{outlook_of, agreed_or, first_agreed, agreed_path, scope_in}
 use Rattle.aml_load.specs.declared.faults.LoadFault.{LoadFault}
 use Rattle.aml_load.specs.declared.faults.LoadFault.TheVariants as loads
-use Rattle.aml_load.specs.Loading.{◌>>=◌, role_of, kind_of, sure_here, Where, strict, Listed, plus, methods_of, most_methods, first_label, byte_of}
-use Rattle.aml_load.specs.Loading.{body_span, plain_entry, method_entry, lead_of, alias_entry, place_at, lead_at, entry_at}
-use Rattle.aml_load.specs.Loading.{new_at, method_at, alias_at, external_at, units_at, declare_as}
-use Rattle.aml_load.specs.Loads.{Adds, AddsUnits, Does}
+use Rattle.aml_load.specs.Declaring.{◌>>=◌, strict, Listed, plus, most_methods, first_label, byte_of, body_span}
+use Rattle.aml_load.specs.Declaring.{lead_of, place_at, lead_at, entry_at, new_at, method_at, alias_at, external_at}
+use Rattle.aml_load.specs.Declaring.{units_at, declare_as}
+use Rattle.aml_load.specs.Loading.{role_of, kind_of, sure_here, Where, methods_of, plain_entry, method_entry}
+use Rattle.aml_load.specs.Loading.{alias_entry, AddsUnits, Does}
 use Rattle.aml_load.specs.Running.{Front, opened_by, opened_at, object_at, scope_at, enter_as}
 use Rattle.aml_load.proofs.Holding.{methods_more}
 use Rattle.aml_load.proofs.SpanLaws.{role_is}

@@ -18,12 +18,13 @@ use Rattle.aml_load.specs.declared.faults.LoadFault.{LoadFault}
 use Rattle.aml_load.specs.declared.faults.LoadFault.TheVariants as loads
 use Rattle.aml_load.specs.declared.standing.StandingTerm.{StandingTerm}
 use Rattle.aml_load.specs.declared.walking.Progress.{Progress}
-use Rattle.aml_load.specs.Loading.{◌>>=◌, Where, Listed, first_listed, with_uses, role_of}
+use Rattle.aml_load.specs.Declaring.{◌>>=◌, Listed, first_listed, with_uses}
+use Rattle.aml_load.specs.Loading.{Where, role_of}
 use Rattle.aml_load.specs.Running.{Front, entered_at, behind_tree}
 use Rattle.aml_load.specs.Standing.{◌>>>◌, Standing, stands, inside_as, term_stands, inside_stand}
 use Rattle.aml_load.specs.Standing.{run_term_stands}
 use Rattle.aml_load.specs.Standings.{standings_view, Found, declare_tables, set_declares, behind_within, within_stand}
-use Rattle.aml_load.specs.Loads.{LoadsTo}
+use Rattle.aml_load.specs.Loading.{LoadsTo}
 use Rattle.aml_load.specs.Tables.{Fails, ReadTables, ListsTo}
 use Rattle.aml_load.specs.Walking.{Walked}
 use Rattle.aml_load.proofs.Behind.{tables_behind}

@@ -29,10 +29,11 @@ use Rattle.aml_set.specs.declared.loaded.Loaded.{Loaded}
 use Rattle.aml_set.specs.declared.methods.Method.{Method}
 use Rattle.aml_load.specs.declared.faults.LoadFault.{LoadFault}
 use Rattle.aml_load.specs.declared.faults.LoadFault.TheVariants as loads
-use Rattle.aml_load.specs.Loading.{◌>>=◌, Listed, Use, first_listed, strict, declare_all, use_count, call_fault}
-use Rattle.aml_load.specs.Loading.{methods_of, most_methods, uses_at}
+use Rattle.aml_load.specs.Declaring.{◌>>=◌, Listed, Use, first_listed, strict, declare_all, use_count, call_fault}
+use Rattle.aml_load.specs.Declaring.{most_methods, uses_at}
+use Rattle.aml_load.specs.Loading.{methods_of}
 use Rattle.aml_load.specs.Running.{Front, table_front, run_names}
-use Rattle.aml_load.specs.Loads.{LoadsTo}
+use Rattle.aml_load.specs.Loading.{LoadsTo}
 use Rattle.aml_load.specs.Tables.{ReadsOne, ReadTables, ListsTo, StopsOne, StopsTables, StopsFor, in_code, table_at}
 use Rattle.aml_load.specs.Tables.{tables_at, load_at, GivesBy, GivesLoad, Fails}
 use Rattle.aml_load.specs.Tables.{LoadsOneWay, LoadsForward, LoadsAgain, AreSpelled, LoadsInTextOrder}

@@ -4,7 +4,7 @@ use Rattle.std.specs.List.{All}
 use Rattle.std.specs.FinSet as set
 use Rattle.std.specs.Option.{option_map, unwrap_or}
 use Rattle.std.proofs.Common.{◌≡◌, ◌≤◌, ◌⊎◌, inl, inr, ℕ, zero, suc, ◌-◌, ◌+◌, Bool, true, false, not, List, [], ◌∷◌, ◌++◌, length, Option}
-use Rattle.std.proofs.Common.{Some, None, Result, Ok, Err, refl, sym, ap, subst, ◌∙◌, arith}
+use Rattle.std.proofs.Common.{Some, None, Result, Ok, refl, sym, ap, subst, ◌∙◌, arith}
 use Rattle.std.proofs.lemmas.List.{length-append}
 use Rattle.std.proofs.lemmas.List.Elements.{All-nil, All-append}
 use Rattle.aml_names.specs.declared.segments.Seg.{Seg}
@@ -17,27 +17,28 @@ use Rattle.aml_code.specs.declared.rows.Role.{Role}
 use Rattle.aml_code.specs.declared.rows.Role.TheVariants as roles
 use Rattle.aml_code.specs.declared.rows.TailKind.{TailKind}
 use Rattle.aml_code.specs.declared.rows.TailKind.TheVariants as tails
-use Rattle.aml_code.specs.Lawful.{Setting, setting_of, IsLawful, AreTerms, TermsStand, IsTail, ReadsStep, next_position}
-use Rattle.aml_code.specs.Lawful.{terms_in, tail_in, after, after_tail, after_all, declared_by, no_arguments, field_names}
+use Rattle.aml_code.specs.Lawful.{Setting, setting_of, IsLawful, AreTerms, IsTail, next_position}
+use Rattle.aml_code.specs.Lawful.{terms_in, after, after_tail, after_all, declared_by, no_arguments, field_names}
 use Rattle.aml_code.specs.Opcodes.{Row, rows, row_of}
-use Rattle.aml_code.specs.Tree.{Tree, nothing, named, op, Trees, no_trees, tree_more, Parts, Tail, terms, body}
+use Rattle.aml_code.specs.Tree.{Tree, nothing, named, op, Trees, no_trees, tree_more, Parts, Tail, terms}
 use Rattle.aml_code.proofs.RowFacts.{rows_say, not_true}
 use Rattle.aml_code.proofs.Takers.{taker_takes}
 use Rattle.aml_parse.specs.Reading.{takes_names}
 use Rattle.aml_parse.specs.Running.{has_terms, is_block, ReadsTerms, Opens}
 use Rattle.aml_parse.proofs.Forward.{is_run, runs_on}
-use Rattle.aml_namespace.specs.Namespace.{Entry, Givens, given_entries}
+use Rattle.aml_namespace.specs.Namespace.{Entry, Givens}
 use Rattle.aml_load.specs.declared.faults.LoadFault.{LoadFault}
-use Rattle.aml_load.specs.Loading.{◌>>=◌, role_of, Where, strict, Listed, Use, use_count, first_listed, with_uses, term_uses}
-use Rattle.aml_load.specs.Loading.{methods_of, most_methods, in_declaration, declare_as, declare, declare_inside, declare_all}
-use Rattle.aml_load.specs.Loads.{Adds, AddsUnits, Does, DoesTerm, emptied, Agrees, TermsDeclare, TermDeclares}
-use Rattle.aml_load.specs.Loads.{InsideDeclares, TermsRead, TermReads, TableLoads, TablesLoad, LoadsTo}
-use Rattle.aml_load.specs.Running.{Front, table_front, entered_at, run_names}
+use Rattle.aml_load.specs.Declaring.{◌>>=◌, strict, Listed, Use, use_count, first_listed, with_uses, term_uses}
+use Rattle.aml_load.specs.Declaring.{most_methods, declare_as, declare, declare_inside, declare_all}
+use Rattle.aml_load.specs.Loading.{role_of, Where, methods_of, in_declaration, AddsUnits, Does, DoesTerm, emptied}
+use Rattle.aml_load.specs.Loading.{Agrees, TermsDeclare, TermDeclares, InsideDeclares, TermsRead, TermReads, TableLoads}
+use Rattle.aml_load.specs.Loading.{TablesLoad, LoadsTo}
+use Rattle.aml_load.specs.Running.{Front, entered_at, run_names}
 use Rattle.aml_load.specs.Tables.{ReadsOne, ReadTables, ListsTo}
 use Rattle.aml_load.proofs.Agreeing.{All-left, All-right, told, module_agrees, module_told, run_agrees, run_told}
 use Rattle.aml_load.proofs.Doing.{DoesBy, Shaped, shaped, does_is, does_so}
-use Rattle.aml_load.proofs.Doing.{bound, with_entries, Lists, goes_in, Goes, GoesSo, strict_is, strict_so, run_site, front, EntersIs}
-use Rattle.aml_load.proofs.Doing.{EntersSo, enter_is, enter_so, is_flat}
+use Rattle.aml_load.proofs.Doing.{bound, with_entries, goes_in, GoesSo, strict_is, strict_so, run_site, front}
+use Rattle.aml_load.proofs.Doing.{enter_is, enter_so, is_flat}
 use Rattle.aml_load.proofs.Holding.{methods_more}
 use Rattle.aml_load.proofs.NoSpans.{terms_tail}
 use Rattle.aml_load.proofs.RunSpans.{lists_in_text_order}

@@ -23,9 +23,10 @@ use Rattle.aml_parse.specs.Running.{has_terms, is_block, ReadsTerms, Opens}
 use Rattle.aml_parse.proofs.Forward.{is_run, runs_on}
 use Rattle.aml_namespace.specs.Namespace.{Givens, external}
 use Rattle.aml_load.specs.declared.faults.LoadFault.{LoadFault}
-use Rattle.aml_load.specs.Loading.{◌>>=◌, role_of, kind_of, Listed, first_listed, byte_of, body_span, first_label}
-use Rattle.aml_load.specs.Loading.{methods_of, most_methods, plain_entry}
-use Rattle.aml_load.specs.Loading.{place_at, lead_at, entry_at, method_at, alias_at, external_at, units_at, declare_as}
+use Rattle.aml_load.specs.Declaring.{◌>>=◌, Listed, first_listed, byte_of, body_span, first_label, most_methods}
+use Rattle.aml_load.specs.Declaring.{place_at, lead_at, entry_at, method_at, alias_at, external_at, units_at}
+use Rattle.aml_load.specs.Declaring.{declare_as}
+use Rattle.aml_load.specs.Loading.{role_of, kind_of, methods_of, plain_entry}
 use Rattle.aml_load.specs.Spans.{Span, tree_spans, all_spans, parts_spans, tail_spans, tables_spans, method_span, InTextOrder}
 use Rattle.aml_load.specs.Running.{Front, table_front, asked, opened_at, object_at, scope_at, enter_as, entered_at}
 use Rattle.aml_load.specs.Running.{run_names}

@@ -30,13 +30,12 @@ use Rattle.aml_code.specs.Lawful.{no_arguments}
 use Rattle.aml_code.proofs.RowFacts.{and_left, and_right, rows_say}
 use Rattle.aml_parse.specs.Reading.{takes_names}
 use Rattle.aml_namespace.specs.declared.kinds.Kind.TheVariants as kinds
-use Rattle.aml_namespace.specs.Namespace.{Entry, declares, external, declared_at}
+use Rattle.aml_namespace.specs.Namespace.{Entry, external, declared_at}
 use Rattle.aml_load.specs.declared.faults.LoadFault.{LoadFault}
-use Rattle.aml_load.specs.Loading.{◌>>=◌, role_of, kind_of, Where, strict, under, Listed, with_uses, first_label}
-use Rattle.aml_load.specs.Loading.{byte_of, body_span, plain_entry, method_entry}
-use Rattle.aml_load.specs.Loading.{methods_of, most_methods, place_at, lead_at, entry_at, new_at, method_at, alias_at}
-use Rattle.aml_load.specs.Loading.{external_at, units_at, declare_as}
-use Rattle.aml_load.specs.Loading.{declare, declare_inside, declare_all}
+use Rattle.aml_load.specs.Declaring.{◌>>=◌, strict, under, Listed, with_uses, first_label, byte_of, body_span}
+use Rattle.aml_load.specs.Declaring.{most_methods, place_at, lead_at, entry_at, new_at, method_at, alias_at}
+use Rattle.aml_load.specs.Declaring.{external_at, units_at, declare_as, declare, declare_inside, declare_all}
+use Rattle.aml_load.specs.Loading.{role_of, kind_of, Where, plain_entry, method_entry, methods_of}
 use Rattle.aml_load.specs.Spans.{Span, method_span, tree_spans, all_spans, parts_spans, tail_spans, fields_spans}
 use Rattle.aml_load.proofs.Holding.{methods_more}
 use Rattle.aml_load.proofs.NoSpans.{terms_tail, body_tail, parts_none, all_none, tail_none, elements_none}

@@ -19,11 +19,10 @@ use Rattle.aml_namespace.specs.Namespace.{declared_at}
 use Rattle.aml_namespace.specs.Runs.{is_open_alias, AreSure, StaysAsItIs, times_at}
 use Rattle.aml_namespace.proofs.Strict.{never_open}
 use Rattle.aml_load.specs.declared.faults.LoadFault.{LoadFault}
-use Rattle.aml_load.specs.Loading.{◌>>=◌, role_of, kind_of, Where, strict, Listed, first_listed, with_uses, byte_of}
-use Rattle.aml_load.specs.Loading.{first_label}
-use Rattle.aml_load.specs.Loading.{most_methods, methods_of, plain_entry, place_at, lead_at, entry_at, new_at, method_at, alias_at}
-use Rattle.aml_load.specs.Loading.{external_at, units_at, declare_as}
-use Rattle.aml_load.specs.Loading.{declare, declare_inside, declare_all}
+use Rattle.aml_load.specs.Declaring.{◌>>=◌, strict, Listed, first_listed, with_uses, byte_of, first_label, most_methods}
+use Rattle.aml_load.specs.Declaring.{place_at, lead_at, entry_at, new_at, method_at, alias_at, external_at, units_at}
+use Rattle.aml_load.specs.Declaring.{declare_as, declare, declare_inside, declare_all}
+use Rattle.aml_load.specs.Loading.{role_of, kind_of, Where, methods_of, plain_entry}
 use Rattle.aml_load.specs.Tables.{ReadTables, LoadsStrictly}
 use Rattle.aml_load.proofs.Relating.{loads_so}
 

@@ -20,9 +20,9 @@ use Rattle.aml_set.specs.declared.loaded.Loaded.{Loaded}
 use Rattle.aml_set.specs.declared.tables.TableSet.{TableSet}
 use Rattle.aml_load.specs.declared.faults.LoadFault.{LoadFault}
 use Rattle.aml_load.specs.declared.faults.LoadFault.TheVariants as loads
-use Rattle.aml_load.specs.Loading.{◌>>=◌, strict, Listed, Use, first_listed, declare_all, use_count, uses_at, code_fault}
-use Rattle.aml_load.specs.Loading.{Unread, methods_of, most_methods}
-use Rattle.aml_load.specs.Loads.{LoadsTo}
+use Rattle.aml_load.specs.Declaring.{◌>>=◌, strict, Listed, Use, first_listed, declare_all, use_count, uses_at}
+use Rattle.aml_load.specs.Declaring.{code_fault, Unread, most_methods}
+use Rattle.aml_load.specs.Loading.{methods_of, LoadsTo}
 use Rattle.aml_load.specs.Running.{Front, table_front, run_names}
 use Rattle.aml_load.specs.Spans.{InTextOrder}
 use Rattle.aml_load.specs.Views.{HoldsLoad, HoldsTables}

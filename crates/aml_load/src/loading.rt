@@ -8,8 +8,8 @@ ghost use Rattle.aml_code.specs.Tree.{Trees};
 ghost use Rattle.aml_code.specs.View.{nodes_view};
 ghost use Rattle.aml_namespace.specs.Namespace.{Entry, given_entries};
 ghost use Rattle.aml_namespace.specs.Known.{StandsFor};
-ghost use Rattle.aml_load.specs.Loading.{Listed, first_listed, most_methods, use_count, call_fault, uses_at};
-ghost use Rattle.aml_load.specs.Loads.{LoadsTo};
+ghost use Rattle.aml_load.specs.Declaring.{Listed, first_listed, most_methods, use_count, call_fault, uses_at};
+ghost use Rattle.aml_load.specs.Loading.{LoadsTo};
 ghost use Rattle.aml_load.specs.Tables.{StopsFor, table_at, tables_at, GivesLoad, GivesSet};
 ghost use Rattle.aml_load.specs.Views.{HoldsLoad, HoldsTables};
 ghost use Rattle.aml_load.specs.Walking.{Holds, Gives, TableWalked, TablesRead};
@@ -144,7 +144,7 @@ fn call_fault(
 }
 
 /// Looks at each name of a group.
-#[tactic(auto, unfolding(crate::specs::Loading::uses_at))]
+#[tactic(auto, unfolding(crate::specs::Declaring::uses_at))]
 fn check_group(
     alloc: Global,
     space: &Space,
@@ -168,7 +168,7 @@ fn check_group(
 
 /// Looks at each name that stands outside the methods. `ModuleCall` or `RunCall` at the first that takes another number
 /// of arguments than it was read with.
-#[tactic(auto, unfolding(crate::specs::Loading::uses_at))]
+#[tactic(auto, unfolding(crate::specs::Declaring::uses_at))]
 fn check_uses(
     alloc: Global,
     space: &Space,

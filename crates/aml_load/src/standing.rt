@@ -3,8 +3,8 @@ ghost use Rattle.std.specs.Prelude.{◌≡◌, ◌⊎◌, ◌++◌, ◌∷◌, [
 ghost use Rattle.aml_code.specs.View.{node_view, nodes_view, parts_view, tail_view};
 ghost use Rattle.aml_namespace.specs.Namespace.{Entry};
 ghost use Rattle.aml_set.specs.Views.{trees_view};
-ghost use Rattle.aml_load.specs.Loading.{Listed, first_listed, strict, declare_as, declare, declare_inside};
-ghost use Rattle.aml_load.specs.Loading.{declare_all, under};
+ghost use Rattle.aml_load.specs.Declaring.{Listed, first_listed, strict, declare_as, declare, declare_inside};
+ghost use Rattle.aml_load.specs.Declaring.{declare_all, under};
 ghost use Rattle.aml_load.specs.Runner.{IsWithin};
 ghost use Rattle.aml_load.specs.Running.{behind_tree, behind_inside, behind_trees, behind_tables};
 ghost use Rattle.aml_load.specs.Standing.{stands, inside_as, term_stands, inside_stand, all_stand, set_stands};
@@ -12,7 +12,7 @@ ghost use Rattle.aml_load.specs.Standing.{tables_stand, run_term_stands, run_ins
 ghost use Rattle.aml_load.specs.Standing.{run_tables_stand, stand_by};
 ghost use Rattle.aml_load.specs.Standings.{standings_view, Finds, Found, declare_tables, declares_by, set_declares};
 ghost use Rattle.aml_load.specs.Standings.{FindsRun, behind_within, within_stand};
-ghost use Rattle.aml_load.specs.Loads.{LoadsTo};
+ghost use Rattle.aml_load.specs.Loading.{LoadsTo};
 ghost use Rattle.aml_load.specs.Tables.{Fails};
 ghost use Rattle.aml_load.specs.Walking.{at_site, Holds, IsInside, Stays};
 ghost use Rattle.aml_space.specs.Near.{IsBelow};
@@ -62,7 +62,7 @@ fn add_term<'a>(
 
 /// Finds a term and those inside it, and declares what they declare.
 #[cycle(find)]
-#[tactic(auto, unfolding(crate::specs::Loading::declare, crate::specs::Standing::term_stands))]
+#[tactic(auto, unfolding(crate::specs::Declaring::declare, crate::specs::Standing::term_stands))]
 fn find_term<'a>(
     progress: &mut Progress,
     site: &Site<'_>,
@@ -99,7 +99,7 @@ fn find_term<'a>(
 
 /// Does what a role does, and finds the terms inside.
 #[cycle(find)]
-#[tactic(auto, unfolding(crate::specs::Loading::declare_as, crate::specs::Standing::inside_as))]
+#[tactic(auto, unfolding(crate::specs::Declaring::declare_as, crate::specs::Standing::inside_as))]
 fn find_by_role<'a>(
     progress: &mut Progress,
     site: &Site<'_>,
@@ -172,7 +172,7 @@ fn find_below<'a>(
 
 /// Finds the terms inside a term.
 #[cycle(find)]
-#[tactic(auto, unfolding(crate::specs::Loading::declare_inside, crate::specs::Standing::inside_stand))]
+#[tactic(auto, unfolding(crate::specs::Declaring::declare_inside, crate::specs::Standing::inside_stand))]
 fn find_inside<'a>(
     progress: &mut Progress,
     site: &Site<'_>,
@@ -193,7 +193,7 @@ fn find_inside<'a>(
 
 /// Finds terms and those inside them, in the order of the text.
 #[cycle(find)]
-#[tactic(auto, unfolding(crate::specs::Loading::declare_all, crate::specs::Standing::all_stand))]
+#[tactic(auto, unfolding(crate::specs::Declaring::declare_all, crate::specs::Standing::all_stand))]
 fn find_terms<'a>(
     progress: &mut Progress,
     site: &Site<'_>,

@@ -26,10 +26,11 @@ use Rattle.aml_namespace.proofs.Finding.{found_holds}
 use Rattle.aml_namespace.proofs.Growing.{none_declared, opens_there, placed_unsure, leads_nowhere, leads_there}
 use Rattle.aml_namespace.proofs.Growing.{aims_alike}
 use Rattle.aml_load.specs.declared.faults.LoadFault.{LoadFault}
-use Rattle.aml_load.specs.Loading.{◌>>=◌, Where, Listed, plus, kind_of, byte_of, body_span, first_label, parent_of}
-use Rattle.aml_load.specs.Loading.{sure_here, sure_with, plain_entry, method_entry, alias_entry, target_by, target_of}
-use Rattle.aml_load.specs.Loading.{place_at, lead_at, entry_at, new_at, method_at, alias_at, external_at, units_at}
-use Rattle.aml_load.specs.Loading.{lead_of, declare_as, most_methods, methods_of}
+use Rattle.aml_load.specs.Declaring.{◌>>=◌, Listed, plus, byte_of, body_span, first_label, target_of, place_at, lead_at}
+use Rattle.aml_load.specs.Declaring.{entry_at, new_at, method_at, alias_at, external_at, units_at, lead_of, declare_as}
+use Rattle.aml_load.specs.Declaring.{most_methods}
+use Rattle.aml_load.specs.Loading.{Where, kind_of, parent_of, sure_here, sure_with, plain_entry, method_entry}
+use Rattle.aml_load.specs.Loading.{alias_entry, target_by, methods_of}
 use Rattle.aml_load.specs.declared.faults.LoadFault.TheVariants as loads
 use Rattle.aml_load.specs.Running.{Front, in_path, opened_by, opened_at, object_at, scope_at, enter_as}
 use Rattle.aml_runs.specs.TableRuns.{RunsInside, is_passed, with_path, gained, gained_at, path_in, found_in}

@@ -21,7 +21,8 @@ use Rattle.aml_namespace.specs.Namespace.{Entry, given, given_entries, Givens, N
 use Rattle.aml_namespace.specs.Runs.{IsRun, Finds, EveryRunAgrees, outlook_of, counts_met, common, arity_met}
 use Rattle.aml_namespace.specs.Runs as runs
 use Rattle.aml_load.specs.declared.faults.LoadFault.{LoadFault}
-use Rattle.aml_load.specs.Loading.{role_of, Listed, with_uses, first_listed}
+use Rattle.aml_load.specs.Declaring.{Listed, with_uses, first_listed}
+use Rattle.aml_load.specs.Loading.{role_of}
 use Rattle.aml_load.specs.Running.{Front, asked, entered_at, run_names}
 use Rattle.aml_load.specs.Tables.{ReadTables}
 use Rattle.aml_load.proofs.Relating.{loads_so}

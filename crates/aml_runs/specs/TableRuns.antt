@@ -19,8 +19,8 @@ use Rattle.aml_namespace.specs.declared.kinds.Kind.TheVariants as kinds
 use Rattle.aml_namespace.specs.Namespace.{Entry, Givens, declares, declared_at, namespace_of, kind_at, decides}
 use Rattle.aml_namespace.specs.Namespace.{arity_of}
 use Rattle.aml_namespace.specs.Runs.{outlook_of, arity_by_kinds, opens_scope, IsRun, means}
-use Rattle.aml_load.specs.Loading.{role_of, kind_of, byte_of, first_label, parent_of, target_of}
-use Rattle.aml_load.specs.Loads.{LoadsTo}
+use Rattle.aml_load.specs.Declaring.{byte_of, first_label, target_of}
+use Rattle.aml_load.specs.Loading.{role_of, kind_of, parent_of, LoadsTo}
 
 -- ---- What stands in a run so far: a list of declarations. All of them are there, and bodies play no part.
 

@@ -14,7 +14,7 @@ use Rattle.aml_namespace.specs.declared.kinds.Kind.{Kind}
 use Rattle.aml_namespace.specs.declared.kinds.Kind.TheVariants as kinds
 use Rattle.aml_namespace.specs.Namespace.{Entry, declares, namespace_of, arity_of}
 use Rattle.aml_namespace.specs.Runs.{outlook_of, arity_by_kinds}
-use Rattle.aml_load.specs.Loads.{LoadsTo}
+use Rattle.aml_load.specs.Loading.{LoadsTo}
 use Rattle.aml_runs.specs.TableRuns.{IsRunOf}
 
 -- ---- Names, terms and declarations.
