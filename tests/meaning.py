@@ -24,7 +24,7 @@ PARTS = [
     ("What a set of dumps means", "acpidis: Means"),
     ("The order of the definition blocks", "acpi_tables: IsOrder bytes_of table_of"),
     ("What tables declare", "aml_load: LoadsTo methods_of"),
-    ("Which bytes are terms", "aml_code: ReadsModule ReadsBody row_of"),
+    ("Which bytes are terms", "aml_code: ReadsModule ReadsBody IsLawful setting_of Arities most_levels row_of last_label field_names"),
     ("What a name means", "aml_namespace: found arity_of namespace_of kind_at aml_names: candidates placed IsName spelling PathSet"),
     ("What a listing in memory shows", "acpidis: Shows"),
 ]

@@ -1,5 +1,5 @@
--- A stepping stone: what the terms of tables declare, one after the other, and the fault at which a load stops (ACPI 6.5,
--- 5.2.11, 5.3, 20.2.5.1 and 20.2.5.2), as `Loading` says it without faults. Clauses that say which fault it is go by it.
+-- A stepping stone: what the terms of tables declare, one after the other, and the fault at which a load stops (ACPI
+-- 6.5, 5.2.11, 5.3, 20.2.5.1 and 20.2.5.2), as `Loading` says it without faults. What faults are goes by it.
 use Rattle.std.specs.Prelude.{ℕ, Option, Some, None, Bool, true, false, List, [], ◌∷◌, ◌++◌, ◌≡◌, length}
 use Rattle.std.specs.Prelude.{Result, Ok, Err, is_some, nat_le, if◌then◌else◌, cond, not, ◌&&◌, ◌||◌, nat_eq}
 use Rattle.std.specs.Option.{unwrap_or, option_map, option_and_then, option_eq, ok_or}

@@ -93,7 +93,8 @@ method_entry site es flags span p = declares p (kinds.Method (flags % 8))
 
 -- what a name leads to at a site, among the entries so far; where the code outside methods may run, in every run
 abbrev pub leads : Where → List Entry → Name → Option (List Seg)
-leads site es = cond site.any_run (agreed_path (outlook_of es) site.scope) (found (namespace_of es) set.empty site.scope)
+leads site es =
+    cond site.any_run (agreed_path (outlook_of es) site.scope) (found (namespace_of es) set.empty site.scope)
 
 -- what an Alias of a path stands for: the path, or that path's own target if it is an Alias
 abbrev pub target_by : Option Kind → List Seg → List Seg
@@ -125,9 +126,9 @@ abbrev pub opened : Where → List Entry → Name → Option (List Seg)
 opened site es n = option_or (leads site es n)
     (cond (site.any_run && not (is_some (found (namespace_of es) set.empty site.scope n))) (placed site.scope n) None)
 
--- What a term does by its role at a site, behind these entries: then these are there, and the terms inside it stand
--- below. An interpreter passes over what is inside an object whose path is declared already, and inside a Scope of what
--- is no scope; and what is inside an If, an Else or a While may not run.
+-- What a term does by its role at a site, from the entries in front of it to those behind it; and where the terms
+-- inside it stand. An interpreter passes over what is inside an object whose path is declared already, and inside a
+-- Scope of what is no scope; and what is inside an If, an Else or a While may not run.
 abbrev pub Does : Role → Where → List Entry → Parts → Tail → List Entry → Where → Type 0
 Does (roles.Declares o) site es ps r fs below = (n : Name) × (last_label None ps ≡ Some n)
     × Adds site es n (plain_entry site es (kind_of o)) fs × (placed site.scope n ≡ Some below.scope)
@@ -168,8 +169,8 @@ method_of _ = None
 abbrev pub methods_of : List Entry → List Method
 methods_of es = filter_map method_of es
 
--- ---- Tables, where in the end these entries are there, and a name of which nothing tells how many arguments it takes
--- takes none or is refused.
+-- ---- Terms, tables, and what they load to. In the end the last entries are there; and a name outside the methods of
+-- which nothing tells how many arguments it takes has none, or is refused.
 
 module _ (unknown_zero : Bool) (last : List Entry) (code : List ℕ) where
   -- The names in a term take as many arguments in the end as were read with them: it is lawful by these counts too. In
@@ -179,8 +180,8 @@ module _ (unknown_zero : Bool) (last : List Entry) (code : List ℕ) where
       (setting_of (agreed_arity (outlook_of last) (unknown_zero || in_declaration t) site.scope) None code)
       most_levels p set.empty t
 
-  -- Terms that were read, at a site, behind these entries, and behind what they declare these. Each term agrees, without
-  -- the terms inside it.
+  -- From the entries in front of them to those behind them: terms at a site, a term, and the terms inside one. Each
+  -- agrees, without the terms inside it.
   abbrev mutual
     pub TermsDeclare : Where → List Entry → Trees → List Entry → Type 0
     TermsDeclare site es no_trees fs = es ≡ fs
@@ -197,14 +198,14 @@ module _ (unknown_zero : Bool) (last : List Entry) (code : List ℕ) where
     InsideDeclares site es (terms ts) fs = TermsDeclare site es ts fs
     InsideDeclares site es r fs = es ≡ fs
 
-  -- How many arguments names take in a term of a table whose code may run: as many as every run agrees on by the entries
-  -- in front of it, with what the user gives, and none where nothing tells it.
+  -- How many arguments names take in a term of a table whose code may run: as many as every run agrees on by the
+  -- entries in front of it, with what the user gives, and none where nothing tells it.
   abbrev pub counts_at : Where → List Entry → Arities
   counts_at site es locals n = Some (unwrap_or (agreed_arity (outlook_of es) false site.scope locals n) 0)
 
   abbrev mutual
-    -- Such a table is read from the left: the terms from an offset on to the end of a span, with at most so many levels,
-    -- at a site, behind these entries. For each a step stands there, with the counts in front of it.
+    -- Such a table is read from the left: the terms from an offset on to the end of a span, with at most so many
+    -- levels, at a site, from entries to entries. For each a step stands there, with the counts in front of it.
     pub TermsRead : ℕ → Position → ℕ → ℕ → Where → List Entry → Trees → List Entry → Type 0
     TermsRead levels p at end site es no_trees fs = (at ≡ end) × (es ≡ fs)
     TermsRead levels p at end site es (tree_more t ts) fs =
@@ -220,8 +221,8 @@ module _ (unknown_zero : Bool) (last : List Entry) (code : List ℕ) where
         × TermsRead (levels - 1) positions.RunTerm start (start + len) below inner ts fs
     TermReads levels head below inner t fs = (head ≡ t) × (is_block head ≡ false) × (inner ≡ fs)
 
--- The AML of table t reads as these terms, behind these entries, and they declare these: read whole, or, where the code
--- outside methods may run, from the left.
+-- The AML of table t reads as these terms, from the entries in front of it to those behind it: as a whole, and then its
+-- terms declare; or, where the code outside methods may run, from the left.
 abbrev pub TableLoads : Bool → Bool → List Entry → ℕ → List Entry → List ℕ → Trees → List Entry → Type 0
 TableLoads false z last t es code ts fs = ReadsModule code ts
     × TermsDeclare z last code (record { table = t; scope = []; any_run = false; sure = true }) es ts fs
@@ -235,8 +236,8 @@ TablesLoad any_run z last t es (c ∷ cs) (ts ∷ rest) fs =
     (ms : List Entry) × TableLoads any_run z last t es c ts ms × TablesLoad any_run z last (suc t) ms cs rest fs
 TablesLoad any_run z last t es _ _ fs = ⊥
 
--- The tables' AML reads as these trees, and these load to these entries, behind the counts that the user gives to paths;
--- and a set has no more methods.
+-- The tables' AML reads as these trees, and these load to these entries, behind the counts that the user gives to
+-- paths. A set has at most so many methods.
 pub record LoadsTo (any_run unknown_zero : Bool) (gs : List (List Seg × ℕ)) (tables : List (List ℕ))
     (trees : List Trees) (es : List Entry) : Type 0 where
   pub read : TablesLoad any_run unknown_zero es 0 (map (λ g. given g.0 g.1) gs) tables trees es

@@ -109,8 +109,8 @@ Fails e walk = (e ≡ loads.NoMemory) ⊎ (walk ≡ Err e)
 -- What a load answered, of which it is said what it holds, is what loading forward gives, unless memory was refused.
 abbrev pub GivesBy : {X : Type 0} → (X → List (List ℕ) → List Trees → List Entry → Type 0) → Bool → Bool → Givens
     → Result X LoadFault → List (List ℕ) → Type 0
-GivesBy HoldsIt any_run unknown_zero gs (Ok x) codes = (trees : List Trees) × (m : Listed) × HoldsIt x codes trees m.entries
-    × (load_at any_run unknown_zero gs codes ≡ Ok (trees, m))
+GivesBy HoldsIt any_run unknown_zero gs (Ok x) codes = (trees : List Trees) × (m : Listed)
+    × HoldsIt x codes trees m.entries × (load_at any_run unknown_zero gs codes ≡ Ok (trees, m))
 GivesBy HoldsIt any_run unknown_zero gs (Err e) codes = Fails e (load_at any_run unknown_zero gs codes)
 
 abbrev pub GivesLoad : Bool → Bool → Givens → Result Loaded LoadFault → List (List ℕ) → Type 0
