@@ -48,6 +48,13 @@ pub All-right : {X : Type 0} (P : X → Type 0) (xs ys : List X) → All P (xs +
 All-right P [] ys h = h
 All-right P (x ∷ xs) ys h = All-right P xs ys (All-tail P x (xs ++ ys) h)
 
+-- each of these names takes as many arguments in the end as were read with it
+abbrev pub AgreesOne : Bool → List Entry → Use → Type 0
+AgreesOne z es u = use_count z es u ≡ Some u.args
+
+abbrev pub Agree : Bool → List Entry → List Use → Type 0
+Agree z es us = All (AgreesOne z es) us
+
 -- ---- what the rows say
 
 is_terms : Option TailKind → Bool
@@ -92,12 +99,6 @@ module _ (code : List ℕ) (z : Bool) (es : List Entry) (site : Where) (d : Bool
   abbrev pub told : Setting
   told = setting_of (agreed_arity (outlook_of es) (z || d) site.scope) None code
 
-  abbrev AgreesOne : Use → Type 0
-  AgreesOne u = use_count z es u ≡ Some u.args
-
-  abbrev pub Agree : List Use → Type 0
-  Agree us = All AgreesOne us
-
   -- the terms behind one, where those inside a term stand
   behind : (s : Setting) (levels : ℕ) (p : Position) (t : Tree) (ts : Trees) → is_inner p ≡ true
       → IsLawful s levels p set.empty t → TermsStand s (IsLawful s levels) (next_position p t) (after s.scope set.empty t) ts
@@ -108,66 +109,66 @@ module _ (code : List ℕ) (z : Bool) (es : List Entry) (site : Where) (d : Bool
 
   -- ---- what is lawful by the counts agrees
 
-  named_told : (p : Position) (n : Name) (k : ℕ) (us : List Use) → count_in told.arity p set.empty n ≡ Some k → Agree us
-      → Agree (cond (asks p) (ask n k ∷ []) [] ++ us)
+  named_told : (p : Position) (n : Name) (k : ℕ) (us : List Use) → count_in told.arity p set.empty n ≡ Some k → Agree z es us
+      → Agree z es (cond (asks p) (ask n k ∷ []) [] ++ us)
   named_told positions.ModuleTerm n k us is rest = absurd cc
   named_told positions.GuardTerm n k us is rest = absurd cc
   named_told positions.Target n k us is rest = rest
   named_told positions.Data n k us is rest = rest
-  named_told _ n k us is rest = All-cons AgreesOne (ask n k) us is rest
+  named_told _ n k us is rest = All-cons (AgreesOne z es) (ask n k) us is rest
 
   mutual
     pub tree_told : (levels : ℕ) (p : Position) (x : Tree) → IsLawful told levels p set.empty x
-        → Agree (uses_in ask (asks p) x)
+        → Agree z es (uses_in ask (asks p) x)
     tree_told zero p x law = absurd law
-    tree_told (suc levels) p nothing law = All-nil AgreesOne
+    tree_told (suc levels) p nothing law = All-nil (AgreesOne z es)
     tree_told (suc levels) p (named n ts) law =
         named_told p n (tree_count ts) (all_uses ask true ts) law.2 (all_told levels positions.Argument ts refl law.3)
     tree_told (suc levels) p (op o w ps r) law =
-        All-append AgreesOne (parts_uses ask (kinds_in o) ps) (tail_uses ask r)
-        (subst (λ ks. Agree (parts_uses ask ks ps)) (sym (kinds_are o law.row law.listed)) (parts_told levels (law.row).parts ps law.parts))
+        All-append (AgreesOne z es) (parts_uses ask (kinds_in o) ps) (tail_uses ask r)
+        (subst (λ ks. Agree z es (parts_uses ask ks ps)) (sym (kinds_are o law.row law.listed)) (parts_told levels (law.row).parts ps law.parts))
         (tail_told levels _ _ r law.tail)
 
     all_told : (levels : ℕ) (p : Position) (ts : Trees) → is_inner p ≡ true
-        → TermsStand told (IsLawful told levels) p set.empty ts → Agree (all_uses ask (asks p) ts)
-    all_told levels p no_trees i law = All-nil AgreesOne
+        → TermsStand told (IsLawful told levels) p set.empty ts → Agree z es (all_uses ask (asks p) ts)
+    all_told levels p no_trees i law = All-nil (AgreesOne z es)
     all_told levels p (tree_more t ts) i law =
-        All-append AgreesOne (uses_in ask (asks p) t) (all_uses ask (asks p) ts) (tree_told levels p t law.0)
+        All-append (AgreesOne z es) (uses_in ask (asks p) t) (all_uses ask (asks p) ts) (tree_told levels p t law.0)
         (all_told levels p ts i (behind told levels p t ts i law.0 law.1))
 
     part_told : (levels : ℕ) (k : PartKind) (x : Part) → IsPart (λ q. IsLawful told levels q set.empty) k x
-        → Agree (part_uses ask (is_argument k) x)
+        → Agree z es (part_uses ask (is_argument k) x)
     part_told levels part_kinds.Term (child t) law = tree_told levels positions.Argument t law
     part_told levels part_kinds.Target (child t) law = tree_told levels positions.Target t law
     part_told levels part_kinds.Data (child t) law = tree_told levels positions.Data t law
     part_told levels _ (child t) law = absurd law
-    part_told levels k _ law = All-nil AgreesOne
+    part_told levels k _ law = All-nil (AgreesOne z es)
 
     parts_told : (levels : ℕ) (ks : List PartKind) (ps : Parts) → AreParts (λ q. IsLawful told levels q set.empty) ks ps
-        → Agree (parts_uses ask ks ps)
-    parts_told levels [] ps law = All-nil AgreesOne
+        → Agree z es (parts_uses ask ks ps)
+    parts_told levels [] ps law = All-nil (AgreesOne z es)
     parts_told levels (k ∷ ks) no_parts law = absurd law
     parts_told levels (k ∷ ks) (part_more p ps) law =
-        All-append AgreesOne (part_uses ask (is_argument k) p) (parts_uses ask ks ps) (part_told levels k p law.0) (parts_told levels ks ps law.1)
+        All-append (AgreesOne z es) (part_uses ask (is_argument k) p) (parts_uses ask ks ps) (part_told levels k p law.0) (parts_told levels ks ps law.1)
 
     tail_told : (levels : ℕ) (q : Position) (k : Option TailKind) (r : Tail)
-        → IsTail told (IsLawful told levels) q k set.empty r → Agree (tail_uses ask r)
+        → IsTail told (IsLawful told levels) q k set.empty r → Agree z es (tail_uses ask r)
     tail_told levels q (Some tails.Elements) (elements ts) law = all_told levels positions.Data ts refl law
     tail_told levels q _ (elements ts) law = absurd law
     tail_told levels q (Some tails.Fields) (fields us) law = fields_told levels us law
     tail_told levels q _ (fields us) law = absurd law
-    tail_told levels q k _ law = All-nil AgreesOne
+    tail_told levels q k _ law = All-nil (AgreesOne z es)
 
     fields_told : (levels : ℕ) (us : Fields) → AreFields (λ q. IsLawful told levels q set.empty) us
-        → Agree (fields_uses ask us)
-    fields_told levels no_fields law = All-nil AgreesOne
+        → Agree z es (fields_uses ask us)
+    fields_told levels no_fields law = All-nil (AgreesOne z es)
     fields_told levels (field_more u us) law =
-        All-append AgreesOne (field_uses ask u) (fields_uses ask us) (field_told levels u law.0) (fields_told levels us law.1)
+        All-append (AgreesOne z es) (field_uses ask u) (fields_uses ask us) (field_told levels u law.0) (fields_told levels us law.1)
 
-    field_told : (levels : ℕ) (u : Field) → IsField (λ q. IsLawful told levels q set.empty) u → Agree (field_uses ask u)
+    field_told : (levels : ℕ) (u : Field) → IsField (λ q. IsLawful told levels q set.empty) u → Agree z es (field_uses ask u)
     field_told levels (connection (buffer t)) law = tree_told levels positions.Data t law.1
-    field_told levels (connection (target n)) law = All-nil AgreesOne
-    field_told levels _ law = All-nil AgreesOne
+    field_told levels (connection (target n)) law = All-nil (AgreesOne z es)
+    field_told levels _ law = All-nil (AgreesOne z es)
 
   -- ---- what was read and agrees is lawful by the counts
 
@@ -176,13 +177,13 @@ module _ (code : List ℕ) (z : Bool) (es : List Entry) (site : Where) (d : Bool
     read = setting_of a None code
 
     named_agrees : (p : Position) (n : Name) (k : ℕ) (us : List Use) → count_in a p set.empty n ≡ Some k
-        → Agree (cond (asks p) (ask n k ∷ []) [] ++ us)
-        → (count_in told.arity p set.empty n ≡ Some k) × Agree us
+        → Agree z es (cond (asks p) (ask n k ∷ []) [] ++ us)
+        → (count_in told.arity p set.empty n ≡ Some k) × Agree z es us
     named_agrees positions.ModuleTerm n k us is all = absurd cc
     named_agrees positions.GuardTerm n k us is all = absurd cc
     named_agrees positions.Target n k us is all = (is, all)
     named_agrees positions.Data n k us is all = (is, all)
-    named_agrees _ n k us is all = (All-head AgreesOne (ask n k) us all, All-tail AgreesOne (ask n k) us all)
+    named_agrees _ n k us is all = (All-head (AgreesOne z es) (ask n k) us all, All-tail (AgreesOne z es) (ask n k) us all)
 
     -- that a term has no terms inside it
     abbrev pub IsFlat : Position → Tree → Type 0
@@ -197,7 +198,7 @@ module _ (code : List ℕ) (z : Bool) (es : List Entry) (site : Where) (d : Bool
 
     mutual
       pub tree_agrees : (levels : ℕ) (p : Position) (x : Tree) → IsFlat p x → IsLawful read levels p set.empty x
-          → Agree (uses_in ask (asks p) x) → IsLawful told levels p set.empty x
+          → Agree z es (uses_in ask (asks p) x) → IsLawful told levels p set.empty x
       tree_agrees zero p x flat law all = absurd law
       tree_agrees (suc levels) p nothing flat law all = law
       tree_agrees (suc levels) p (named n ts) flat law all =
@@ -210,26 +211,26 @@ module _ (code : List ℕ) (z : Bool) (es : List Entry) (site : Where) (d : Bool
         width = law.width;
         guarded = law.guarded;
         parts = parts_agree levels (law.row).parts ps law.parts
-            (subst (λ ks. Agree (parts_uses ask ks ps)) (kinds_are o law.row law.listed)
-            (All-left AgreesOne (parts_uses ask (kinds_in o) ps) (tail_uses ask r) all));
+            (subst (λ ks. Agree z es (parts_uses ask ks ps)) (kinds_are o law.row law.listed)
+            (All-left (AgreesOne z es) (parts_uses ask (kinds_in o) ps) (tail_uses ask r) all));
         tail = tail_agrees levels _ _ r (flat law.row law.listed (taker_takes p (law.row).place law.taken)) law.tail
-            (All-right AgreesOne (parts_uses ask (kinds_in o) ps) (tail_uses ask r) all);
+            (All-right (AgreesOne z es) (parts_uses ask (kinds_in o) ps) (tail_uses ask r) all);
       }
 
       all_agree : (levels : ℕ) (p : Position) (ts : Trees) → is_inner p ≡ true
-          → TermsStand read (IsLawful read levels) p set.empty ts → Agree (all_uses ask (asks p) ts)
+          → TermsStand read (IsLawful read levels) p set.empty ts → Agree z es (all_uses ask (asks p) ts)
           → TermsStand told (IsLawful told levels) p set.empty ts
       all_agree levels p no_trees i law all = tt
       all_agree levels p (tree_more t ts) i law all = (
-        tree_agrees levels p t (inner_is_flat p t i) law.0 (All-left AgreesOne (uses_in ask (asks p) t) (all_uses ask (asks p) ts) all),
+        tree_agrees levels p t (inner_is_flat p t i) law.0 (All-left (AgreesOne z es) (uses_in ask (asks p) t) (all_uses ask (asks p) ts) all),
         subst (λ ls. TermsStand told (IsLawful told levels) (next_position p t) ls ts) (sym (unchanged read levels p set.empty t i law.0))
             (subst (λ (q : Position). TermsStand told (IsLawful told levels) q set.empty ts) (sym (stays p t i))
             (all_agree levels p ts i (behind read levels p t ts i law.0 law.1)
-            (All-right AgreesOne (uses_in ask (asks p) t) (all_uses ask (asks p) ts) all))),
+            (All-right (AgreesOne z es) (uses_in ask (asks p) t) (all_uses ask (asks p) ts) all))),
       )
 
       part_agrees : (levels : ℕ) (k : PartKind) (x : Part) → IsPart (λ q. IsLawful read levels q set.empty) k x
-          → Agree (part_uses ask (is_argument k) x) → IsPart (λ q. IsLawful told levels q set.empty) k x
+          → Agree z es (part_uses ask (is_argument k) x) → IsPart (λ q. IsLawful told levels q set.empty) k x
       part_agrees levels part_kinds.Term (child t) law all = tree_agrees levels positions.Argument t (inner_is_flat positions.Argument t refl) law all
       part_agrees levels part_kinds.Target (child t) law all = tree_agrees levels positions.Target t (inner_is_flat positions.Target t refl) law all
       part_agrees levels part_kinds.Data (child t) law all = tree_agrees levels positions.Data t (inner_is_flat positions.Data t refl) law all
@@ -238,17 +239,17 @@ module _ (code : List ℕ) (z : Bool) (es : List Entry) (site : Where) (d : Bool
 
       parts_agree : (levels : ℕ) (ks : List PartKind) (ps : Parts)
           → AreParts (λ q. IsLawful read levels q set.empty) ks ps
-          → Agree (parts_uses ask ks ps) → AreParts (λ q. IsLawful told levels q set.empty) ks ps
+          → Agree z es (parts_uses ask ks ps) → AreParts (λ q. IsLawful told levels q set.empty) ks ps
       parts_agree levels [] no_parts law all = tt
       parts_agree levels (k ∷ ks) (part_more p ps) law all = (
-        part_agrees levels k p law.0 (All-left AgreesOne (part_uses ask (is_argument k) p) (parts_uses ask ks ps) all),
-        parts_agree levels ks ps law.1 (All-right AgreesOne (part_uses ask (is_argument k) p) (parts_uses ask ks ps) all),
+        part_agrees levels k p law.0 (All-left (AgreesOne z es) (part_uses ask (is_argument k) p) (parts_uses ask ks ps) all),
+        parts_agree levels ks ps law.1 (All-right (AgreesOne z es) (part_uses ask (is_argument k) p) (parts_uses ask ks ps) all),
       )
       parts_agree levels _ _ law all = absurd law
 
       tail_agrees : (levels : ℕ) (q : Position) (k : Option TailKind) (r : Tail)
           → ((ts : Trees) → r ≡ terms ts → k ≡ Some tails.Terms → ts ≡ no_trees)
-          → IsTail read (IsLawful read levels) q k set.empty r → Agree (tail_uses ask r)
+          → IsTail read (IsLawful read levels) q k set.empty r → Agree z es (tail_uses ask r)
           → IsTail told (IsLawful told levels) q k set.empty r
       tail_agrees levels q (Some tails.Terms) (terms ts) flat law all =
           subst (λ (us : Trees). TermsStand told (IsLawful told levels) q set.empty us) (sym (flat ts refl refl)) tt
@@ -260,15 +261,15 @@ module _ (code : List ℕ) (z : Bool) (es : List Entry) (site : Where) (d : Bool
       tail_agrees levels q _ _ flat law all = law
 
       fields_agree : (levels : ℕ) (us : Fields) → AreFields (λ q. IsLawful read levels q set.empty) us
-          → Agree (fields_uses ask us) → AreFields (λ q. IsLawful told levels q set.empty) us
+          → Agree z es (fields_uses ask us) → AreFields (λ q. IsLawful told levels q set.empty) us
       fields_agree levels no_fields law all = tt
       fields_agree levels (field_more u us) law all = (
-        field_agrees levels u law.0 (All-left AgreesOne (field_uses ask u) (fields_uses ask us) all),
-        fields_agree levels us law.1 (All-right AgreesOne (field_uses ask u) (fields_uses ask us) all),
+        field_agrees levels u law.0 (All-left (AgreesOne z es) (field_uses ask u) (fields_uses ask us) all),
+        fields_agree levels us law.1 (All-right (AgreesOne z es) (field_uses ask u) (fields_uses ask us) all),
       )
 
       field_agrees : (levels : ℕ) (u : Field) → IsField (λ q. IsLawful read levels q set.empty) u
-          → Agree (field_uses ask u) → IsField (λ q. IsLawful told levels q set.empty) u
+          → Agree z es (field_uses ask u) → IsField (λ q. IsLawful told levels q set.empty) u
       field_agrees levels (connection (buffer t)) law all = (law.0, tree_agrees levels positions.Data t (inner_is_flat positions.Data t refl) law.1 all)
       field_agrees levels (connection (target n)) law all = law
       field_agrees levels _ law all = law
@@ -354,12 +355,9 @@ emptied_flat o w ps (terms us) ts e = let same : no_trees ≡ ts = cc in sym sam
 emptied_flat o w ps _ ts e = absurd cc
 
 module _ (code : List ℕ) (z : Bool) (es : List Entry) (site : Where) (o : ℕ) (w : Option PkgWidth) (ps : Parts) (r : Tail) where
-  abbrev AllAgree : List Use → Type 0
-  AllAgree us = All (λ u. use_count z es u ≡ Some u.args) us
-
   pub module_agrees : (a : Arities) (levels : ℕ) (p : Position) → levels ≤ 512 → takes_names p ≡ false
       → IsLawful (setting_of a None code) levels p set.empty (op o w ps r)
-      → AllAgree (term_uses site (op o w ps r))
+      → Agree z es (term_uses site (op o w ps r))
       → Agrees z es code positions.ModuleTerm site (op o w ps (emptied r))
   module_agrees a zero p less h law all = absurd law
   module_agrees a (suc levels) p less h law all =
@@ -367,13 +365,13 @@ module _ (code : List ℕ) (z : Bool) (es : List Entry) (site : Where) (o : ℕ)
       deeper_by (told code z es site d) (512 - suc levels) (suc levels) 512 positions.ModuleTerm set.empty (op o w ps (emptied r)) (omega (arith, less))
       (tree_agrees code z es site d a (suc levels) positions.ModuleTerm (op o w ps (emptied r)) (λ row listed taken ts e k. emptied_flat o w ps r ts e)
       (module_emptied code a levels p o w ps r h law)
-      (subst (λ us. AllAgree (parts_uses (use_of site d) (kinds_in o) ps ++ us)) (sym (same_uses (use_of site d) r)) all))
+      (subst (λ us. Agree z es (parts_uses (use_of site d) (kinds_in o) ps ++ us)) (sym (same_uses (use_of site d) r)) all))
 
   pub module_told : Agrees z es code positions.ModuleTerm site (op o w ps (emptied r))
-      → AllAgree (term_uses site (op o w ps r))
+      → Agree z es (term_uses site (op o w ps r))
   module_told law =
       let d = in_declaration (op o w ps r) in
-      subst (λ us. AllAgree (parts_uses (use_of site d) (kinds_in o) ps ++ us)) (same_uses (use_of site d) r)
+      subst (λ us. Agree z es (parts_uses (use_of site d) (kinds_in o) ps ++ us)) (same_uses (use_of site d) r)
       (tree_told code z es site d 512 positions.ModuleTerm (op o w ps (emptied r)) law)
 
 -- ---- a term of a table that is read from the left, of which the terms inside it are a span
@@ -393,9 +391,6 @@ run_asks positions.RunAfterIf run = refl
 run_asks _ run = absurd cc
 
 module _ (code : List ℕ) (z : Bool) (es : List Entry) (site : Where) (p : Position) (run : is_run p ≡ true) (x : Tree) where
-  abbrev TheseAgree : List Use → Type 0
-  TheseAgree us = All (λ u. use_count z es u ≡ Some u.args) us
-
   run_is_flat : (a : Arities) → IsFlat code z es site (in_declaration x) a p x
   run_is_flat a = by x
     where
@@ -405,14 +400,14 @@ module _ (code : List ℕ) (z : Bool) (es : List Entry) (site : Where) (p : Posi
       by (op o w ps r) = λ row listed taken ts e k. absurd (run_kind p row.tail run k)
 
   pub run_agrees : (a : Arities) (levels : ℕ) → levels ≤ 512 → IsLawful (setting_of a None code) levels p set.empty x
-      → TheseAgree (term_uses site x) → Agrees z es code p site x
+      → Agree z es (term_uses site x) → Agrees z es code p site x
   run_agrees a levels less law all =
       let d = in_declaration x in
       deeper_by (told code z es site d) (512 - levels) levels 512 p set.empty x (omega (arith, less))
       (tree_agrees code z es site d a levels p x (run_is_flat a) law
-      (subst (λ b. TheseAgree (uses_in (use_of site d) b x)) (sym (run_asks p run)) all))
+      (subst (λ b. Agree z es (uses_in (use_of site d) b x)) (sym (run_asks p run)) all))
 
-  pub run_told : Agrees z es code p site x → TheseAgree (term_uses site x)
+  pub run_told : Agrees z es code p site x → Agree z es (term_uses site x)
   run_told law =
       let d = in_declaration x in
-      subst (λ b. TheseAgree (uses_in (use_of site d) b x)) (run_asks p run) (tree_told code z es site d 512 p x law)
+      subst (λ b. Agree z es (uses_in (use_of site d) b x)) (run_asks p run) (tree_told code z es site d 512 p x law)

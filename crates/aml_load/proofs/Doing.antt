@@ -249,7 +249,7 @@ pub bound : {A B : Type 0} (r : Result A LoadFault) (f : A → Result B LoadFaul
 bound (Ok x) f y is = (x, refl, is)
 bound (Err e) f y is = absurd cc
 
-value_is : {A : Type 0} (o : Option A) (e : LoadFault) (x : A) → ok_or o e ≡ Ok x → o ≡ Some x
+pub value_is : {A : Type 0} (o : Option A) (e : LoadFault) (x : A) → ok_or o e ≡ Ok x → o ≡ Some x
 value_is None e x is = absurd cc
 value_is (Some y) e x is = let same : y ≡ x = cc in ap Some same
 

@@ -35,7 +35,8 @@ use Rattle.aml_load.specs.Loading.{Agrees, TermsDeclare, TermDeclares, InsideDec
 use Rattle.aml_load.specs.Loading.{TablesLoad, LoadsTo}
 use Rattle.aml_load.specs.Running.{Front, entered_at, run_names}
 use Rattle.aml_load.specs.Tables.{ReadsOne, ReadTables, ListsTo}
-use Rattle.aml_load.proofs.Agreeing.{All-left, All-right, told, module_agrees, module_told, run_agrees, run_told}
+use Rattle.aml_load.proofs.Agreeing.{AgreesOne, Agree, All-left, All-right, told, module_agrees, module_told, run_agrees}
+use Rattle.aml_load.proofs.Agreeing.{run_told}
 use Rattle.aml_load.proofs.Doing.{DoesBy, Shaped, shaped, does_is, does_so}
 use Rattle.aml_load.proofs.Doing.{bound, with_entries, goes_in, GoesSo, strict_is, strict_so, run_site, front}
 use Rattle.aml_load.proofs.Doing.{enter_is, enter_so, is_flat}
@@ -161,16 +162,13 @@ flat_no_block o (Some r) listed block flat =
 -- ---- the terms of a table that is read whole
 
 module _ (z : Bool) (last : List Entry) (code : List ℕ) where
-  abbrev Agree : List Use → Type 0
-  Agree us = All (λ u. use_count z last u ≡ Some u.args) us
-
-  both : (xs ys us : List Use) → us ≡ xs ++ ys → Agree us → Agree xs × Agree ys
+  both : (xs ys us : List Use) → us ≡ xs ++ ys → Agree z last us → Agree z last xs × Agree z last ys
   both xs ys us same all =
-      let here = subst Agree same all in
-      (All-left (λ u. use_count z last u ≡ Some u.args) xs ys here, All-right (λ u. use_count z last u ≡ Some u.args) xs ys here)
+      let here = subst (Agree z last) same all in
+      (All-left (AgreesOne z last) xs ys here, All-right (AgreesOne z last) xs ys here)
 
-  one : (xs ys us : List Use) → us ≡ xs ++ ys → Agree xs → Agree ys → Agree us
-  one xs ys us same left right = subst Agree (sym same) (All-append (λ u. use_count z last u ≡ Some u.args) xs ys left right)
+  one : (xs ys us : List Use) → us ≡ xs ++ ys → Agree z last xs → Agree z last ys → Agree z last us
+  one xs ys us same left right = subst (Agree z last) (sym same) (All-append (AgreesOne z last) xs ys left right)
 
   module _ (t : ℕ) where
     abbrev read : Setting
@@ -191,26 +189,26 @@ module _ (z : Bool) (last : List Entry) (code : List ℕ) where
     goes_is : (levels : ℕ) (q : Position) (kind : Option TailKind) (k m : Listed) (r : Tail) (below : Where) (role : Role)
         → fits role kind ≡ true → IsKind levels q kind r
         → ((s : List Seg) → declare_inside (strict t s) k r ≡ Ok m
-        → InsideDeclares z last code (strict t s) k.entries r m.entries × Agree k.uses)
+        → InsideDeclares z last code (strict t s) k.entries r m.entries × Agree z last k.uses)
         → ((s : List Seg) × (below ≡ strict t s) × (declare_inside (strict t s) k r ≡ Ok m)) ⊎ ((goes_in role ≡ false) × (k ≡ m))
-        → Agree m.uses
-        → InsideDeclares z last code below k.entries r m.entries × Agree k.uses
+        → Agree z last m.uses
+        → InsideDeclares z last code below k.entries r m.entries × Agree z last k.uses
     goes_is levels q kind k m r below role fit law inside (inl (s, stands, is)) all =
         let inner = inside s is in
         (subst (λ (b : Where). InsideDeclares z last code b k.entries r m.entries) (sym stands) inner.0, inner.1)
     goes_is levels q kind k m r below role fit law inside (inr (goes, same)) all = (
       closed_is levels q kind r below k.entries m.entries (closed_kind role kind goes fit) law (ap (λ (k : Listed). k.entries) same),
-      subst (λ (k : Listed). Agree k.uses) (sym same) all,
+      subst (λ (k : Listed). Agree z last k.uses) (sym same) all,
     )
 
     mutual
       unfolding declare declare_inside declare_all
 
       all_is : (levels : ℕ) (p : Position) (scope : List Seg) (l m : Listed) (ts : Trees) → levels ≤ 512 → takes_names p ≡ false
-          → AreTerms read levels p set.empty ts → declare_all (strict t scope) l ts ≡ Ok m → Agree m.uses
-          → TermsDeclare z last code (strict t scope) l.entries ts m.entries × Agree l.uses
+          → AreTerms read levels p set.empty ts → declare_all (strict t scope) l ts ≡ Ok m → Agree z last m.uses
+          → TermsDeclare z last code (strict t scope) l.entries ts m.entries × Agree z last l.uses
       all_is levels p scope l m no_trees less h law is all =
-          let same : l ≡ m = cc in (ap (λ (k : Listed). k.entries) same, subst (λ (k : Listed). Agree k.uses) (sym same) all)
+          let same : l ≡ m = cc in (ap (λ (k : Listed). k.entries) same, subst (λ (k : Listed). Agree z last k.uses) (sym same) all)
       all_is levels p scope l m (tree_more x xs) less h law is all =
           let first = bound (declare (strict t scope) l x) _ m is in
           let k = first.0 in
@@ -220,12 +218,12 @@ module _ (z : Bool) (last : List Entry) (code : List ℕ) where
           ((k.entries, here.0, rest.0), here.1)
 
       tree_is : (levels : ℕ) (p : Position) (scope : List Seg) (l m : Listed) (x : Tree) → levels ≤ 512 → takes_names p ≡ false
-          → IsLawful read levels p set.empty x → declare (strict t scope) l x ≡ Ok m → Agree m.uses
-          → TermDeclares z last code (strict t scope) l.entries x m.entries × Agree l.uses
+          → IsLawful read levels p set.empty x → declare (strict t scope) l x ≡ Ok m → Agree z last m.uses
+          → TermDeclares z last code (strict t scope) l.entries x m.entries × Agree z last l.uses
       tree_is levels p scope l m nothing less h law is all =
-          let same : l ≡ m = cc in (ap (λ (k : Listed). k.entries) same, subst (λ (k : Listed). Agree k.uses) (sym same) all)
+          let same : l ≡ m = cc in (ap (λ (k : Listed). k.entries) same, subst (λ (k : Listed). Agree z last k.uses) (sym same) all)
       tree_is levels p scope l m (named n ts) less h law is all =
-          let same : l ≡ m = cc in (ap (λ (k : Listed). k.entries) same, subst (λ (k : Listed). Agree k.uses) (sym same) all)
+          let same : l ≡ m = cc in (ap (λ (k : Listed). k.entries) same, subst (λ (k : Listed). Agree z last k.uses) (sym same) all)
       tree_is zero p scope l m (op o w ps r) less h law is all = absurd law
       tree_is (suc levels) p scope l m (op o w ps r) less h law is all =
           let asked = with_uses (strict t scope) l (op o w ps r) in
@@ -244,19 +242,19 @@ module _ (z : Bool) (last : List Entry) (code : List ℕ) where
 
       inside_is : (levels : ℕ) (q : Position) (kind : Option TailKind) (scope : List Seg) (l m : Listed) (r : Tail) → levels ≤ 512
           → (kind ≡ Some tails.Terms → takes_names q ≡ false) → IsKind levels q kind r
-          → declare_inside (strict t scope) l r ≡ Ok m → Agree m.uses
-          → InsideDeclares z last code (strict t scope) l.entries r m.entries × Agree l.uses
+          → declare_inside (strict t scope) l r ≡ Ok m → Agree z last m.uses
+          → InsideDeclares z last code (strict t scope) l.entries r m.entries × Agree z last l.uses
       inside_is levels q kind scope l m (terms ts) less free law is all =
           let e = terms_tail read levels q set.empty kind ts law in
           all_is levels q scope l m ts less (free e.0) e.1 is all
       inside_is levels q kind scope l m _ less free law is all =
-          let same : l ≡ m = cc in (ap (λ (k : Listed). k.entries) same, subst (λ (k : Listed). Agree k.uses) (sym same) all)
+          let same : l ≡ m = cc in (ap (λ (k : Listed). k.entries) same, subst (λ (k : Listed). Agree z last k.uses) (sym same) all)
 
     -- ---- and back
 
     -- declaring forward lists these entries, and names that agree
     abbrev Listing : Result Listed LoadFault → List Entry → Type 0
-    Listing r fs = (us : List Use) × (r ≡ Ok (record { entries = fs; uses = us })) × Agree us
+    Listing r fs = (us : List Use) × (r ≡ Ok (record { entries = fs; uses = us })) × Agree z last us
 
     closed_so : (s : Setting) (levels : ℕ) (q : Position) (k : Option TailKind) (r : Tail) (below : Where) (es fs : List Entry)
         → is_terms k ≡ false → IsTail s (IsLawful s levels) q k set.empty (emptied r)
@@ -280,7 +278,7 @@ module _ (z : Bool) (last : List Entry) (code : List ℕ) where
 
     goes_so : (scope : List Seg) (o : ℕ) (w : Option PkgWidth) (ps : Parts) (r : Tail) (l : Listed) (gs : List Entry) (below : Where) (fs : List Entry)
         → Agrees z last code positions.ModuleTerm (strict t scope) (op o w ps (emptied r))
-        → InsideDeclares z last code below gs r fs → Agree l.uses
+        → InsideDeclares z last code below gs r fs → Agree z last l.uses
         → GoesSo t scope l ps r (λ l below. declare_inside below l r) (role_of o) gs below
         → ((s : List Seg) → InsideDeclares z last code (strict t s) gs r fs → Listing (declare_inside (strict t s) (with_entries l gs) r) fs)
         → Listing (declare_as (role_of o) (strict t scope) l ps r (λ l below. declare_inside below l r)) fs
@@ -294,7 +292,7 @@ module _ (z : Bool) (last : List Entry) (code : List ℕ) where
       unfolding declare declare_inside declare_all
 
       all_so : (scope : List Seg) (l : Listed) (ts : Trees) (fs : List Entry) → length (methods_of fs) ≤ most_methods
-          → TermsDeclare z last code (strict t scope) l.entries ts fs → Agree l.uses
+          → TermsDeclare z last code (strict t scope) l.entries ts fs → Agree z last l.uses
           → Listing (declare_all (strict t scope) l ts) fs
       all_so scope l no_trees fs few same all = (l.uses, ap (λ es. Ok (with_entries l es)) same, all)
       all_so scope l (tree_more x xs) fs few (gs, first, rest) all =
@@ -303,7 +301,7 @@ module _ (z : Bool) (last : List Entry) (code : List ℕ) where
           (behind.0, ap (λ (r : Result Listed LoadFault). r >>= λ k. declare_all (strict t scope) k xs) here.1 ∙ behind.1, behind.2)
 
       tree_so : (scope : List Seg) (l : Listed) (x : Tree) (fs : List Entry) → length (methods_of fs) ≤ most_methods
-          → TermDeclares z last code (strict t scope) l.entries x fs → Agree l.uses
+          → TermDeclares z last code (strict t scope) l.entries x fs → Agree z last l.uses
           → Listing (declare (strict t scope) l x) fs
       tree_so scope l nothing fs few same all = (l.uses, ap (λ es. Ok (with_entries l es)) same, all)
       tree_so scope l (named n ts) fs few same all = (l.uses, ap (λ es. Ok (with_entries l es)) same, all)
@@ -317,7 +315,7 @@ module _ (z : Bool) (last : List Entry) (code : List ℕ) where
           (λ s there. inside_so s (with_entries asked gs) r fs few there uses)
 
       inside_so : (scope : List Seg) (l : Listed) (r : Tail) (fs : List Entry) → length (methods_of fs) ≤ most_methods
-          → InsideDeclares z last code (strict t scope) l.entries r fs → Agree l.uses
+          → InsideDeclares z last code (strict t scope) l.entries r fs → Agree z last l.uses
           → Listing (declare_inside (strict t scope) l r) fs
       inside_so scope l (terms ts) fs few h all = all_so scope l ts fs few h all
       inside_so scope l _ fs few same all = (l.uses, ap (λ es. Ok (with_entries l es)) same, all)
@@ -355,11 +353,11 @@ module _ (z : Bool) (last : List Entry) (code : List ℕ) (t : ℕ) where
   mutual
     read_is : (levels : ℕ) (p : Position) (at end : ℕ) (s : List Seg) (b : Bool) (l : Listed) (ts : Trees) (g : Front)
         → levels ≤ 512 → is_run p ≡ true
-        → ReadsTerms (run_names t) code levels p at end (front t s b l) ts g → Agree z last code g.listed.uses
-        → TermsRead z last code levels p at end (run_site t s b) l.entries ts g.listed.entries × Agree z last code l.uses
+        → ReadsTerms (run_names t) code levels p at end (front t s b l) ts g → Agree z last g.listed.uses
+        → TermsRead z last code levels p at end (run_site t s b) l.entries ts g.listed.entries × Agree z last l.uses
     read_is levels p at end s b l no_trees g less run h all = (
       (h.0, ap (λ (f : Front). f.listed.entries) h.1),
-      subst (λ (f : Front). Agree z last code f.listed.uses) (sym h.1) all,
+      subst (λ (f : Front). Agree z last f.listed.uses) (sym h.1) all,
     )
     read_is levels p at end s b l (tree_more x xs) g less run (head, behind, inner, ended, step, is, opens, rest) all =
         let there = read_is levels (next_position p head) behind end s b ended.listed xs g less (runs_on p head run) rest all in
@@ -374,14 +372,14 @@ module _ (z : Bool) (last : List Entry) (code : List ℕ) (t : ℕ) where
         )
 
     opened_is : (levels : ℕ) (head : Tree) (s : List Seg) (b : Bool) (l : Listed) (x : Tree) (ended : Front) → levels ≤ 512
-        → Opens (run_names t) code levels head (front t s b l) x ended → Agree z last code ended.listed.uses
-        → TermReads z last code levels head (run_site t s b) l.entries x ended.listed.entries × Agree z last code l.uses
+        → Opens (run_names t) code levels head (front t s b l) x ended → Agree z last ended.listed.uses
+        → TermReads z last code levels head (run_site t s b) l.entries x ended.listed.entries × Agree z last l.uses
     opened_is levels head s b l (op o w ps (terms ts)) ended less (start, len, same, block, read) all =
         let inner = read_is (levels - 1) positions.RunTerm start (start + len) s b l ts ended (omega (arith, less)) refl read all in
         ((start, len, same, block, inner.0), inner.1)
     opened_is levels head s b l _ ended less h all = (
       (h.0, h.1, ap (λ (f : Front). f.listed.entries) h.2),
-      subst (λ (f : Front). Agree z last code f.listed.uses) (sym h.2) all,
+      subst (λ (f : Front). Agree z last f.listed.uses) (sym h.2) all,
     )
 
   -- ---- and back
@@ -411,12 +409,12 @@ module _ (z : Bool) (last : List Entry) (code : List ℕ) (t : ℕ) where
   block_stands (op o w ps r) below site block (inr flat) = absurd (flat_no_block o (row_of o) refl block flat)
 
   abbrev Behind : (List Use → Type 0) → Type 0
-  Behind Reads = (us : List Use) × Reads us × Agree z last code us
+  Behind Reads = (us : List Use) × Reads us × Agree z last us
 
   mutual
     read_so : (levels : ℕ) (p : Position) (at end : ℕ) (s : List Seg) (b : Bool) (l : Listed) (ts : Trees) (fs : List Entry)
         → length (methods_of fs) ≤ most_methods → is_run p ≡ true
-        → TermsRead z last code levels p at end (run_site t s b) l.entries ts fs → Agree z last code l.uses
+        → TermsRead z last code levels p at end (run_site t s b) l.entries ts fs → Agree z last l.uses
         → Behind (λ us. ReadsTerms (run_names t) code levels p at end (front t s b l) ts (front t s b (record { entries = fs; uses = us })))
     read_so levels p at end s b l no_trees fs few run h all =
         (l.uses, (h.0, ap (λ es. front t s b (with_entries l es)) h.1), all)
@@ -436,7 +434,7 @@ module _ (z : Bool) (last : List Entry) (code : List ℕ) (t : ℕ) where
 
     opened_so : (levels : ℕ) (head : Tree) (below : Where) (s : List Seg) (b : Bool) (l : Listed) (x : Tree) (gs : List Entry)
         → length (methods_of gs) ≤ most_methods → (below ≡ run_site t s b) ⊎ Flat head
-        → TermReads z last code levels head below l.entries x gs → Agree z last code l.uses
+        → TermReads z last code levels head below l.entries x gs → Agree z last l.uses
         → Behind (λ us. Opens (run_names t) code levels head (front t s b l) x (front t s b (record { entries = gs; uses = us })))
     opened_so levels head below s b l (op o w ps (terms ts)) gs few stands (start, len, same, block, read) all =
         let site = block_stands head below (run_site t s b) block stands in
@@ -449,24 +447,21 @@ module _ (z : Bool) (last : List Entry) (code : List ℕ) (t : ℕ) where
 -- ---- the tables, and the whole load
 
 module _ (any z : Bool) (last : List Entry) where
-  abbrev Agreeing : List Use → Type 0
-  Agreeing us = All (λ u. use_count z last u ≡ Some u.args) us
-
-  table_is : (mode : Bool) (t : ℕ) (l : Listed) (c : List ℕ) (ts : Trees) (m : Listed) → ReadsOne mode t l c ts m → Agreeing m.uses
-      → TableLoads mode z last t l.entries c ts m.entries × Agreeing l.uses
+  table_is : (mode : Bool) (t : ℕ) (l : Listed) (c : List ℕ) (ts : Trees) (m : Listed) → ReadsOne mode t l c ts m → Agree z last m.uses
+      → TableLoads mode z last t l.entries c ts m.entries × Agree z last l.uses
   table_is false t l c ts m (law, is) all =
       let done = all_is z last c t 512 positions.ModuleTerm [] l m ts (omega arith) refl law.lawful is all in
       ((law, done.0), done.1)
   table_is true t l c ts m (k, reads, same) all =
-      let uses = subst (λ (n : Listed). Agreeing n.uses) (sym same) all in
+      let uses = subst (λ (n : Listed). Agree z last n.uses) (sym same) all in
       let done = read_is z last c t 512 positions.RunTerm 0 (length c) [] true l ts k (omega arith) refl reads uses in
       (subst (λ (n : Listed). TableLoads true z last t l.entries c ts n.entries) same done.0, done.1)
 
   tables_are : (t : ℕ) (l : Listed) (cs : List (List ℕ)) (trees : List Trees) (m : Listed)
-      → ReadTables any t l cs trees m → Agreeing m.uses
-      → TablesLoad any z last t l.entries cs trees m.entries × Agreeing l.uses
+      → ReadTables any t l cs trees m → Agree z last m.uses
+      → TablesLoad any z last t l.entries cs trees m.entries × Agree z last l.uses
   tables_are t l [] [] m same all =
-      (ap (λ (k : Listed). k.entries) same, subst (λ (k : Listed). Agreeing k.uses) (sym same) all)
+      (ap (λ (k : Listed). k.entries) same, subst (λ (k : Listed). Agree z last k.uses) (sym same) all)
   tables_are t l [] (ts ∷ rest) m read all = absurd read
   tables_are t l (c ∷ cs) [] m read all = absurd read
   tables_are t l (c ∷ cs) (ts ∷ rest) m (k, reads, read) all =
@@ -488,8 +483,8 @@ module _ (any z : Bool) (last : List Entry) where
       omega (arith, table_fewer any t es c ts gs one, tables_fewer (suc t) gs cs rest fs behind)
 
   table_so : (mode : Bool) (t : ℕ) (l : Listed) (c : List ℕ) (ts : Trees) (fs : List Entry) → length (methods_of fs) ≤ most_methods
-      → TableLoads mode z last t l.entries c ts fs → Agreeing l.uses
-      → (us : List Use) × ReadsOne mode t l c ts (record { entries = fs; uses = us }) × Agreeing us
+      → TableLoads mode z last t l.entries c ts fs → Agree z last l.uses
+      → (us : List Use) × ReadsOne mode t l c ts (record { entries = fs; uses = us }) × Agree z last us
   table_so false t l c ts fs few (law, declares) all =
       let done = all_so z last c t [] l ts fs few declares all in (done.0, (law, done.1), done.2)
   table_so true t l c ts fs few read all =
@@ -497,8 +492,8 @@ module _ (any z : Bool) (last : List Entry) where
       (done.0, (front t [] true (record { entries = fs; uses = done.0 }), done.1, refl), done.2)
 
   tables_so : (t : ℕ) (l : Listed) (cs : List (List ℕ)) (trees : List Trees) (fs : List Entry) → length (methods_of fs) ≤ most_methods
-      → TablesLoad any z last t l.entries cs trees fs → Agreeing l.uses
-      → (us : List Use) × ReadTables any t l cs trees (record { entries = fs; uses = us }) × Agreeing us
+      → TablesLoad any z last t l.entries cs trees fs → Agree z last l.uses
+      → (us : List Use) × ReadTables any t l cs trees (record { entries = fs; uses = us }) × Agree z last us
   tables_so t l [] [] fs few same all = (l.uses, ap (λ es. with_entries l es) same, all)
   tables_so t l [] (ts ∷ rest) fs few h all = absurd h
   tables_so t l (c ∷ cs) [] fs few h all = absurd h
@@ -517,5 +512,5 @@ module _ (any z : Bool) (gs : Givens) (cs : List (List ℕ)) (trees : List Trees
   pub loads_so : (es : List Entry) → LoadsTo any z gs cs trees es
       → (us : List Use) × ListsTo any z gs cs trees (record { entries = es; uses = us })
   loads_so es h =
-      let done = tables_so any z es 0 (first_listed gs) cs trees es h.few h.read (All-nil (λ u. use_count z es u ≡ Some u.args)) in
+      let done = tables_so any z es 0 (first_listed gs) cs trees es h.few h.read (All-nil (AgreesOne z es)) in
       (done.0, record { read = done.1; agreed = done.2 })

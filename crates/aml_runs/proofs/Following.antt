@@ -28,7 +28,8 @@ use Rattle.aml_load.specs.Tables.{ReadTables}
 use Rattle.aml_load.proofs.Relating.{loads_so}
 use Rattle.aml_runs.specs.TableRuns.{Runs, RunTerms, RunTables, IsSelection, RunsAreSelections, EveryRunOfTablesAgrees}
 use Rattle.aml_runs.proofs.Leading.{run_finds}
-use Rattle.aml_runs.proofs.Entering.{site_at, front, is_flat, inwards, past, flat, enter_ran, enter_past}
+use Rattle.aml_load.proofs.Doing.{run_site as site_at, front, is_flat}
+use Rattle.aml_runs.proofs.Entering.{inwards, past, flat, enter_ran, enter_past}
 
 -- ---- Terms stand only inside what loading goes into.
 
