@@ -326,8 +326,11 @@ module _ (code : List ℕ) (a : Arities) where
 
   size_less : (ps : Parts) (r : Tail) → length (parts_encoding code ps ++ tail_encoding code (emptied r))
       ≤ length (parts_encoding code ps ++ tail_encoding code r)
-  size_less ps (terms ts) = omega (arith, length-append (parts_encoding code ps) (tail_encoding code (terms ts)),
-      length-append (parts_encoding code ps) (tail_encoding code (terms no_trees)))
+  size_less ps (terms ts) = omega (
+    arith,
+    length-append (parts_encoding code ps) (tail_encoding code (terms ts)),
+    length-append (parts_encoding code ps) (tail_encoding code (terms no_trees)),
+  )
   size_less ps _ = omega arith
 
   module_emptied : (levels : ℕ) (p : Position) (o : ℕ) (w : Option PkgWidth) (ps : Parts) (r : Tail) → takes_names p ≡ false

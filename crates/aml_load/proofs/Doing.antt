@@ -38,7 +38,7 @@ use Rattle.aml_load.specs.Declaring.{◌>>=◌, strict, Listed, plus, most_metho
 use Rattle.aml_load.specs.Declaring.{lead_of, place_at, lead_at, entry_at, new_at, method_at, alias_at, external_at}
 use Rattle.aml_load.specs.Declaring.{units_at, declare_as}
 use Rattle.aml_load.specs.Loading.{role_of, kind_of, sure_here, Where, methods_of, plain_entry, method_entry}
-use Rattle.aml_load.specs.Loading.{alias_entry, AddsUnits, Does}
+use Rattle.aml_load.specs.Loading.{alias_entry, AddsUnits, in_object, in_scope, Does}
 use Rattle.aml_load.specs.Running.{Front, opened_by, opened_at, object_at, scope_at, enter_as}
 use Rattle.aml_load.proofs.Holding.{methods_more}
 use Rattle.aml_load.proofs.SpanLaws.{role_is}
@@ -56,12 +56,6 @@ abbrev opened_in : Where → List Entry → Option Name → Option (List Seg)
 opened_in site es n = option_or (lead_of site es n)
     (cond (site.any_run && not (is_some (option_and_then (found (namespace_of es) set.empty site.scope) n)))
     (option_and_then (placed site.scope) n) None)
-
-abbrev in_object : Where → List Entry → List Seg → Where
-in_object site es p = record site { scope = p; sure = sure_here site es p && not (is_some (declared_at es p)) }
-
-abbrev in_scope : Where → List Entry → List Seg → Where
-in_scope site es p = record site { scope = p; sure = site.sure && (not site.any_run || scope_in (outlook_of es) p) }
 
 abbrev in_block : Where → Where
 in_block site = record site { sure = not site.any_run && site.sure }
@@ -144,6 +138,7 @@ the_body s Is p q ls r law = by r (subst (λ (k : TailKind). IsTail s Is q (Some
     kept positions.RunTerm = refl
     kept positions.RunAfterIf = refl
     kept _ = refl
+
     by : (r : Tail) → IsTail s Is q (Some tails.Body) ls r → (start len : ℕ) × (r ≡ body start len)
     by (body start len) law = (start, len, refl)
     by _ law = absurd law
@@ -274,6 +269,7 @@ unplaced scope n none = by n.root (nat_le n.ups (length scope)) refl none
   where
     at : List Seg
     at = take (length scope - n.ups) scope ++ n.segs
+
     by : (root le : Bool) → nat_le n.ups (length scope) ≡ le → cond root (Some n.segs) (cond le (Some at) None) ≡ None
         → cond (not root && ((n.ups == 0) && (length n.segs == 1))) (upward (length scope) scope n.segs)
         (option_to_list (cond root (Some n.segs) (cond le (Some at) None))) ≡ []
@@ -406,6 +402,7 @@ module _ (site : Where) (l : Listed) (ps : Parts) (x : Tail) (inside : Listed �
     where
       entry : List Seg → Entry
       entry = method_entry site l.entries (byte_of ps) (body_span x)
+
       by : (full : Bool) → cond full (Err loads.TooManyMethods) (new_at site l (last_label None ps) entry) ≡ Ok m
           → Lists l m (AddsBy site l.entries (last_label None ps) entry)
       by true h = absurd cc

@@ -107,8 +107,12 @@ module _ (z : Bool) (last : List Entry) (code : List ℕ) where
         → TermsRead z last code levels p at end site es ts fs → Fewer es fs
     read_fewer levels p at end site es no_trees fs h = same_fewer es fs h.1
     read_fewer levels p at end site es (tree_more x xs) fs (head, behind, inner, below, gs, step, agrees, does, opens, rest) =
-        omega (arith, head_fewer site es head inner below does, opened_fewer levels head below inner x gs opens,
-        read_fewer levels (next_position p head) behind end site gs xs fs rest)
+        omega (
+          arith,
+          head_fewer site es head inner below does,
+          opened_fewer levels head below inner x gs opens,
+          read_fewer levels (next_position p head) behind end site gs xs fs rest,
+        )
 
     opened_fewer : (levels : ℕ) (head : Tree) (below : Where) (es : List Entry) (x : Tree) (fs : List Entry)
         → TermReads z last code levels head below es x fs → Fewer es fs
@@ -236,9 +240,16 @@ module _ (z : Bool) (last : List Entry) (code : List ℕ) where
           let here = subst (λ (x : Role). fits x kind ≡ true) (sym (role_is o law.row law.listed)) fit.0 in
           let inner = goes_is levels q kind k m r did.1 (role_of o) here tail
           (λ s into. inside_is levels q kind s k m r (omega (arith, less)) fit.1 tail into all) did.3 all in
-          let uses = both l.uses (term_uses (strict t scope) (op o w ps r)) k.uses did.2.1 inner.1 in
-          ((k.entries, did.1, module_agrees code z last (strict t scope) o w ps r no_arguments (suc levels) p less h law uses.1,
-              does_is (strict t scope) l.entries k.entries did.1 (role_of o) ps r (shaped read (IsLawful read levels) p set.empty o w ps r law) did.2.0, inner.0), uses.0)
+          let uses = both l.uses (term_uses (strict t scope) (op o w ps r)) k.uses did.2.1 inner.1 in (
+            (
+              k.entries,
+              did.1,
+              module_agrees code z last (strict t scope) o w ps r no_arguments (suc levels) p less h law uses.1,
+              does_is (strict t scope) l.entries k.entries did.1 (role_of o) ps r (shaped read (IsLawful read levels) p set.empty o w ps r law) did.2.0,
+              inner.0,
+            ),
+            uses.0,
+          )
 
       inside_is : (levels : ℕ) (q : Position) (kind : Option TailKind) (scope : List Seg) (l m : Listed) (r : Tail) → levels ≤ 512
           → (kind ≡ Some tails.Terms → takes_names q ≡ false) → IsKind levels q kind r
@@ -366,8 +377,18 @@ module _ (z : Bool) (last : List Entry) (code : List ℕ) (t : ℕ) where
         let inside = opened_is levels head did.1 did.2 k x ended less
         (subst (λ (f : Front). Opens (run_names t) code levels head f x ended) did.3 opens) there.1 in
         let uses = both z last code l.uses (term_uses (run_site t s b) head) k.uses did.5 inside.1 in (
-          (head, behind, k.entries, run_site t did.1 did.2, ended.listed.entries, step,
-              run_agrees code z last (run_site t s b) p run head ((run_names t).arity (front t s b l)) levels less step.lawful uses.1, did.4, inside.0, there.0),
+          (
+            head,
+            behind,
+            k.entries,
+            run_site t did.1 did.2,
+            ended.listed.entries,
+            step,
+            run_agrees code z last (run_site t s b) p run head ((run_names t).arity (front t s b l)) levels less step.lawful uses.1,
+            did.4,
+            inside.0,
+            there.0,
+          ),
           uses.0,
         )
 
@@ -427,8 +448,16 @@ module _ (z : Bool) (last : List Entry) (code : List ℕ) (t : ℕ) where
         let within = opened_so levels head below did.0 did.1 (record { entries = inner; uses = asked }) x gs (omega (arith, few, fewer)) did.3 opens uses in
         let there = read_so levels (next_position p head) behind end s b (record { entries = gs; uses = within.0 }) xs fs few (runs_on p head run) rest within.2 in (
           there.0,
-          (head, behind, front t did.0 did.1 (record { entries = inner; uses = asked }), front t did.0 did.1 (record { entries = gs; uses = within.0 }),
-              step, did.2, within.1, there.1),
+          (
+            head,
+            behind,
+            front t did.0 did.1 (record { entries = inner; uses = asked }),
+            front t did.0 did.1 (record { entries = gs; uses = within.0 }),
+            step,
+            did.2,
+            within.1,
+            there.1,
+          ),
           there.2,
         )
 

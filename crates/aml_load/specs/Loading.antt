@@ -126,19 +126,24 @@ abbrev pub opened : Where → List Entry → Name → Option (List Seg)
 opened site es n = option_or (leads site es n)
     (cond (site.any_run && not (is_some (found (namespace_of es) set.empty site.scope n))) (placed site.scope n) None)
 
+-- Where the terms inside an object stand, and those inside a Scope. An interpreter passes over what is inside an object
+-- whose path is declared already, and inside a Scope of what is no scope.
+abbrev pub in_object : Where → List Entry → List Seg → Where
+in_object site es p = record site { scope = p; sure = sure_here site es p && not (is_some (declared_at es p)) }
+
+abbrev pub in_scope : Where → List Entry → List Seg → Where
+in_scope site es p = record site { scope = p; sure = site.sure && (not site.any_run || scope_in (outlook_of es) p) }
+
 -- What a term does by its role at a site, from the entries in front of it to those behind it; and where the terms
--- inside it stand. An interpreter passes over what is inside an object whose path is declared already, and inside a
--- Scope of what is no scope; and what is inside an If, an Else or a While may not run.
+-- inside it stand. What is inside an If, an Else or a While may not run.
 abbrev pub Does : Role → Where → List Entry → Parts → Tail → List Entry → Where → Type 0
 Does (roles.Declares o) site es ps r fs below = (n : Name) × (last_label None ps ≡ Some n)
     × Adds site es n (plain_entry site es (kind_of o)) fs × (placed site.scope n ≡ Some below.scope)
-    × (below ≡ record site { scope = below.scope; sure =
-    sure_here site es below.scope && not (is_some (declared_at es below.scope)) })
+    × (below ≡ in_object site es below.scope)
 Does roles.Method site es (part_more (label n) (part_more (byte flags) no_parts)) (body start len) fs below =
     Adds site es n (method_entry site es flags (start, len)) fs
 Does roles.Scope site es (part_more (label n) no_parts) r fs below =
-    (opened site es n ≡ Some below.scope) × (es ≡ fs) × (below ≡ record site { scope = below.scope; sure =
-    site.sure && (not site.any_run || scope_in (outlook_of es) below.scope) })
+    (opened site es n ≡ Some below.scope) × (es ≡ fs) × (below ≡ in_scope site es below.scope)
 Does roles.Alias site es (part_more (label source) (part_more (label n) no_parts)) r fs below =
     (p : List Seg) × (leads site es source ≡ Some p) × Adds site es n (alias_entry site es p) fs
 Does roles.External site es (part_more (label n) (part_more (byte k) (part_more (byte count) no_parts))) r fs below =
