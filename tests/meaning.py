@@ -24,14 +24,14 @@ HEAD = TOP / "tests/meaning_words.md"
 PARTS = [
     ("What a set of dumps means", "acpidis: Means"),
     ("The order of the definition blocks", "acpi_tables: IsOrder bytes_of table_of"),
-    ("What tables declare", "aml_load: LoadsTo Listed methods_of"),
-    ("Which bytes are terms", "aml_code: ReadsModule ReadsBody row_of"),
+    ("What tables declare", "aml_load: LoadsTo methods_of"),
+    ("Which bytes are terms", "aml_code: ReadsModule ReadsBody IsLawful setting_of Arities most_levels row_of last_label field_names"),
     ("What a name means", "aml_namespace: found arity_of namespace_of kind_at aml_names: candidates placed IsName spelling PathSet"),
     ("What a listing in memory shows", "acpidis: Shows"),
 ]
 ADDED = (
     "What `--any-run` adds",
-    "aml_parse: ReadsTable aml_load: run_names table_front Front sure_here sure_with aml_namespace: agreed_path agreed_arity outlook_of open_in",
+    "aml_load: TermsRead sure_here sure_with aml_namespace: agreed_path agreed_arity outlook_of open_in scope_in",
 )
 PRINTED = ("What a run prints", "acpidis: Lists")
 # Types that are met only as the fault of a Result, which no Ok has: they stand in a part of their own.
@@ -272,7 +272,7 @@ class Page:
     def fault_types(self):
         """The types of FAULTS, behind all that an Ok is made of."""
         types = [it for name in FAULTS[1] for (_, other), it in self.sources.types.items() if other == name]
-        self.lines += [f"## {FAULTS[0]}", "", "An Ok has none of these: of them its definitions need only that an `Err` is no `Ok`.", ""]
+        self.lines += [f"## {FAULTS[0]}", "", "No definition of what an Ok means names these.", ""]
         self.block("rust", [line for it in types for line in [*it.lines, ""]])
         self.parts.append((FAULTS[0], [], types))
 

@@ -16,7 +16,7 @@ pub use Rattle.acpidis.specs.declared.checking.Mark.{Mark}
 pub use Rattle.acpidis.specs.declared.options.Options.{Options}
 pub use Rattle.aml_code.specs.Lawful.{ReadsModule}
 pub use Rattle.aml_code.specs.Tree.{Trees, no_trees}
-pub use Rattle.aml_load.specs.Loading.{Listed, methods_of}
+pub use Rattle.aml_load.specs.Loading.{methods_of}
 pub use Rattle.aml_set.specs.Code.{AreShort}
 pub use Rattle.aml_set.specs.Views.{codes_view, span_of, body_in, trees_view, body_of, table_codes, table_dumps}
 pub use Rattle.aml_set.specs.Views.{table_terms, body_in_set, IsListed}

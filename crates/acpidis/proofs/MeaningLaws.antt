@@ -1,7 +1,7 @@
 -- A set of dumps means one listing: what an order and a load of it give is what the dumps load to, with the bodies that
 -- were read it is what they mean, and whatever they mean is that. What a refused load tells is told of the one order.
 use Rattle.acpidis.proofs.Common.{AllZip, ◌≡◌, ◌≤◌, ℕ, List, [], ◌∷◌, map, length, drop, get_or, refl, sym, ap, ap₂}
-use Rattle.acpidis.proofs.Common.{◌∙◌, Trees, Listed}
+use Rattle.acpidis.proofs.Common.{◌∙◌, Trees, Entry}
 use Rattle.acpidis.proofs.Common.{LoadsBy, methods_of, HoldsTables, Loaded, TableSet, table_dumps, IsListed, Dump}
 use Rattle.acpidis.proofs.Common.{Order, IsOrder, Body, indexes_in, Options, codes_in}
 use Rattle.acpidis.proofs.Common.{Reading, entry_of, AreReadings}
@@ -52,18 +52,18 @@ module _ (dumps : List Dump) (options : Options) (order : Order) (codes : List (
       cs ∙ ap₂ (λ (d : ℕ) (s : List ℕ). codes_in dumps (d ∷ s)) (sym same.0) (sym same.1)
 
   -- where nothing loads, the dumps mean nothing
-  pub none_meant : (e : Refusal) → IsWant e ⊎ ((trees : List Trees) (m : Listed) → LoadsBy options codes trees m → ⊥)
+  pub none_meant : (e : Refusal) → IsWant e ⊎ ((trees : List Trees) (es : List Entry) → LoadsBy options codes trees es → ⊥)
       → IsWant e ⊎ ((k : Meaning) → LoadsSet dumps options k → ⊥)
   none_meant e (inl want) = inl want
-  none_meant e (inr none) = inr (λ k set. let all = all_codes k set in none k.trees k.listed (rw all set.loads))
+  none_meant e (inr none) = inr (λ k set. let all = all_codes k set in none k.trees k.entries (rw all set.loads))
 
   module _ (x : TableSet) (named : table_dumps x.tables.items ≡ indexes_in order)
-      (loads : (trees : List Trees) × (m : Listed) × LoadsBy options codes trees m × HoldsTables x codes trees m)
-      (one : (trees : List Trees) (m : Listed) → LoadsBy options codes trees m → HoldsTables x codes trees m) where
+      (loads : (trees : List Trees) × (es : List Entry) × LoadsBy options codes trees es × HoldsTables x codes trees es)
+      (one : (trees : List Trees) (es : List Entry) → LoadsBy options codes trees es → HoldsTables x codes trees es) where
     -- the dumps have the order and load to what was loaded
     abbrev loads_so : (k : Meaning) × LoadsSet dumps options k × HasTables x dumps k
     loads_so = (
-      record { dsdt = order.dsdt; ssdts = order.ssdts.items; trees = loads.0; listed = loads.1; bodies = [] },
+      record { dsdt = order.dsdt; ssdts = order.ssdts.items; trees = loads.0; entries = loads.1; bodies = [] },
       record { order = there; loads = rw (← cs) loads.2 },
       record { named = named; holds = rw (← cs) loads.3 },
     )
@@ -74,7 +74,7 @@ module _ (dumps : List Dump) (options : Options) (order : Order) (codes : List (
         let same = only k.dsdt k.ssdts set.order in
         let all = all_codes k set in record {
           named = named ∙ ap₂ (λ (d : ℕ) (s : List ℕ). d ∷ s) (sym same.0) (sym same.1);
-          holds = rw (← all) (one k.trees k.listed (rw all set.loads));
+          holds = rw (← all) (one k.trees k.entries (rw all set.loads));
         }
 
     pub set_so : length x.methods.items ≤ 1048576 → IsSet dumps options x
@@ -88,8 +88,8 @@ module _ (dumps : List Dump) (options : Options) (x : TableSet) (rs : List Readi
       → (k : Meaning) × Means dumps options k × HasTables x dumps k × (map entry_of rs ≡ k.bodies)
   means_so h =
       let k = h.0 in
-      let here = are_entries options.unknown_zero x k.listed.entries h.2.holds.space x.methods.items rs are in (
-        record { dsdt = k.dsdt; ssdts = k.ssdts; trees = k.trees; listed = k.listed; bodies = map entry_of rs },
+      let here = are_entries options.unknown_zero x k.entries h.2.holds.space x.methods.items rs are in (
+        record { dsdt = k.dsdt; ssdts = k.ssdts; trees = k.trees; entries = k.entries; bodies = map entry_of rs },
         record { set = record { order = h.1.order; loads = h.1.loads }; bodies = rw (← h.2.holds.tables, ← h.2.holds.methods) here },
         record { named = h.2.named; holds = h.2.holds },
         refl,
@@ -98,14 +98,14 @@ module _ (dumps : List Dump) (options : Options) (x : TableSet) (rs : List Readi
   -- and whatever they mean has these bodies
   pub means_only : (k : Meaning) → Means dumps options k → HasTables x dumps k → map entry_of rs ≡ k.bodies
   means_only k means it =
-      sym (the_entries options.unknown_zero x k.listed.entries it.holds.space x.methods.items rs k.bodies are
+      sym (the_entries options.unknown_zero x k.entries it.holds.space x.methods.items rs k.bodies are
       (rw (it.holds.tables, it.holds.methods) means.bodies))
 
 -- and what is told of those in memory is told of that
 pub told_so : (dumps : List Dump) (options : Options) (x : TableSet) (ds : List Body) (are : AreBodies options.unknown_zero x ds) (k : Meaning)
-    → HasTables x dumps k → AllZip (Became options.unknown_zero k.listed.entries (codes_of dumps k)) (methods_of k.listed.entries) ds
+    → HasTables x dumps k → AllZip (Became options.unknown_zero k.entries (codes_of dumps k)) (methods_of k.entries) ds
 told_so dumps options x ds are k it =
-    rw (← it.holds.tables, ← it.holds.methods) (are_told options.unknown_zero x k.listed.entries it.holds.space x.methods.items ds are)
+    rw (← it.holds.tables, ← it.holds.methods) (are_told options.unknown_zero x k.entries it.holds.space x.methods.items ds are)
 
 -- ---- the same set with its tables in lists of their own, beside the order that it was loaded in
 

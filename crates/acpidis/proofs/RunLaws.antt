@@ -31,19 +31,19 @@ printed false dumps known blocks codes ms bs = whole_text dumps (finite.entries 
 printed true dumps known blocks codes ms bs = check_lines blocks (checks_with blocks (marks_of codes ms bs))
 
 module _ (dumps : List Dump) (k : Meaning) (order : List ℕ) (codes : List (List ℕ)) (trees : List Trees) (known : Known) (ms : List Method)
-    (named : order ≡ order_of k) (coded : codes ≡ codes_of dumps k) (read : trees ≡ k.trees) (stands : StandsFor known k.listed.entries)
-    (methods : ms ≡ methods_of k.listed.entries) where
+    (named : order ≡ order_of k) (coded : codes ≡ codes_of dumps k) (read : trees ≡ k.trees) (stands : StandsFor known k.entries)
+    (methods : ms ≡ methods_of k.entries) where
   -- the tables of a listing that they hold, and its methods, are those of that
   at_listing : {Y : Type 0} (F : List OneBlock → List (List ℕ) → List Method → Y)
       → F (blocks_of (names_in dumps order) codes trees) codes ms
-      ≡ F (blocks_of (names_in dumps (order_of k)) (codes_of dumps k) k.trees) (codes_of dumps k) (methods_of k.listed.entries)
+      ≡ F (blocks_of (names_in dumps (order_of k)) (codes_of dumps k) k.trees) (codes_of dumps k) (methods_of k.entries)
   at_listing F = λ i. F (blocks_of (names_in dumps (named i)) (coded i) (read i)) (coded i) (methods i)
 
   -- with its bodies its output is printed
   printed_is : (check : Bool)
       → printed check dumps known (blocks_of (names_in dumps order) codes trees) codes ms k.bodies ≡ output_of check dumps k
   printed_is false =
-      let rows = ap finite.entries (declarations_alone known k.listed.entries stands) in
+      let rows = ap finite.entries (declarations_alone known k.entries stands) in
       λ i. listing_text dumps (named i) (rows i) (coded i) (read i) k.bodies
   printed_is true = at_listing (λ blocks codes ms. check_lines blocks (checks_with blocks (marks_of codes ms k.bodies)))
 

@@ -42,8 +42,8 @@ tables_same marks (n ∷ names) (c ∷ codes) (ts ∷ trees) t h r =
 -- all tables of what dumps mean are the same
 pub all_are_same : (dumps : List Dump) (options : Options) (k : Meaning) → Means dumps options k
     → all_same (checks_with (blocks_of (names_in dumps (order_of k)) (codes_of dumps k) k.trees)
-    (marks_of (codes_of dumps k) (methods_of k.listed.entries) k.bodies)) ≡ true
+    (marks_of (codes_of dumps k) (methods_of k.entries) k.bodies)) ≡ true
 all_are_same dumps options k means =
     tables_same _ (names_in dumps (order_of k)) (codes_of dumps k) k.trees 0
-    (marks_same options.unknown_zero k.listed.entries (codes_of dumps k) (methods_of k.listed.entries) k.bodies means.bodies)
-    (all_spelled options (codes_of dumps k) k.trees k.listed means.set.loads)
+    (marks_same options.unknown_zero k.entries (codes_of dumps k) (methods_of k.entries) k.bodies means.bodies)
+    (all_spelled options (codes_of dumps k) k.trees k.entries means.set.loads)

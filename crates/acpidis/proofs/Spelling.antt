@@ -1,5 +1,5 @@
 -- The trees of tables are spelled by their AML.
-use Rattle.acpidis.proofs.Common.{◌≡◌, ℕ, List, [], ◌∷◌, AllZip, Trees, Listed, LoadsBy, Options}
+use Rattle.acpidis.proofs.Common.{◌≡◌, ℕ, List, [], ◌∷◌, AllZip, Trees, Entry, LoadsBy, Options}
 use Rattle.aml_code.specs.Lawful.{BodiesStand}
 use Rattle.aml_code.specs.Tree.{encodings}
 use Rattle.acpidis.specs.Meaning.{none_unknown}
@@ -16,8 +16,8 @@ without_bodies [] (ts ∷ trees) r = absurd r
 without_bodies (c ∷ codes) [] r = absurd r
 without_bodies (c ∷ codes) (ts ∷ trees) r = (r.0.0, without_bodies codes trees r.1)
 
-pub all_spelled : (options : Options) (codes : List (List ℕ)) (trees : List Trees) (m : Listed)
-    → LoadsBy options codes trees m
+pub all_spelled : (options : Options) (codes : List (List ℕ)) (trees : List Trees) (es : List Entry)
+    → LoadsBy options codes trees es
     → AllZip Spells codes trees
-all_spelled options codes trees m h =
-    without_bodies codes trees (are_spelled options.any_run (none_unknown options) options.externals.items codes trees m h)
+all_spelled options codes trees es h =
+    without_bodies codes trees (are_spelled options.any_run (none_unknown options) options.externals.items codes trees es h)

@@ -104,7 +104,7 @@ abbrev pub checks_text : List Dump → Meaning → List ℕ
 checks_text dumps k =
     let codes = codes_of dumps k in
     let blocks = blocks_of (names_in dumps (order_of k)) codes k.trees in
-    check_lines blocks (checks_with blocks (marks_of codes (methods_of k.listed.entries) k.bodies))
+    check_lines blocks (checks_with blocks (marks_of codes (methods_of k.entries) k.bodies))
 
 -- ---- A stepping stone of the proofs: what a run keeps of each body, whose terms it lets go.
 

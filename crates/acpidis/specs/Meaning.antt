@@ -1,13 +1,12 @@
 -- What a set of dumps means: one listing, as plain data, and its text.
-use Rattle.std.specs.Prelude.{◌≡◌, ◌≤◌, ℕ, Bool, ◌&&◌, List, ◌∷◌, map, length}
+use Rattle.std.specs.Prelude.{◌≡◌, ◌≤◌, ℕ, Bool, ◌&&◌, List, ◌∷◌, map, length, drop}
 use Rattle.std.specs.List.{AllZip}
 use Rattle.std.specs.FinMap as finite
 use Rattle.aml_names.specs.declared.segments.Seg.{Seg}
 use Rattle.aml_code.specs.Tree.{Trees}
 use Rattle.aml_namespace.specs.Namespace.{Entry}
 use Rattle.aml_namespace.specs.Known.{Declared, declarations_in}
-use Rattle.aml_load.specs.Loading.{Listed, methods_of}
-use Rattle.aml_load.specs.Tables.{LoadsTo}
+use Rattle.aml_load.specs.Loading.{methods_of, LoadsTo}
 use Rattle.aml_load.specs.Views.{HoldsLoad, HoldsTables}
 use Rattle.aml_set.specs.Views.{table_dumps}
 use Rattle.aml_set.specs.declared.loaded.Loaded.{Loaded}
@@ -18,9 +17,10 @@ use Rattle.aml_text.specs.Listing.{listing_text}
 use Rattle.aml_text.specs.declared.listing.Listing.{Listing}
 use Rattle.acpi_tables.specs.declared.dump.Dump.{Dump}
 use Rattle.acpi_tables.specs.declared.order.Order.{Order}
-use Rattle.acpi_tables.specs.Order.{IsOrder}
+use Rattle.acpi_tables.specs.Header.{table_of}
+use Rattle.acpi_tables.specs.Order.{IsOrder, bytes_of}
 use Rattle.acpidis.specs.declared.options.Options.{Options}
-use Rattle.acpidis.specs.Bodies.{codes_in, IsEntry, Became}
+use Rattle.acpidis.specs.Bodies.{IsEntry, Became}
 
 -- a listing: the indexes of the definition blocks in load order, their terms, what these declare, and a body for each
 -- method
@@ -28,38 +28,26 @@ pub record Meaning : Type 0 where
   pub dsdt : ℕ
   pub ssdts : List ℕ
   pub trees : List Trees
-  pub listed : Listed
+  pub entries : List Entry
   pub bodies : List OneBody
 
--- the AML of the definition blocks
+-- the AML of the definition blocks, in load order: what follows the 36 bytes of a table's header (ACPI 6.5, 5.2.11.1)
 abbrev pub codes_of : List Dump → Meaning → List (List ℕ)
-codes_of dumps k = codes_in dumps (k.dsdt ∷ k.ssdts)
+codes_of dumps k = map (λ index. drop 36 (table_of (bytes_of dumps index))) (k.dsdt ∷ k.ssdts)
 
--- The dumps have this order, and the AML of its tables reads as these trees, which load to these entries. Nothing is
--- said of the bodies of methods. A name outside them whose count nothing tells takes none only with both options.
+-- The dumps have this order, and the AML of its tables loads to these trees and entries. Nothing is said of the bodies
+-- of methods. A name outside them whose count nothing tells takes none only with both options.
 pub record LoadsSet (dumps : List Dump) (options : Options) (k : Meaning) : Type 0 where
   pub order : IsOrder dumps options.any_sum k.dsdt k.ssdts
   pub loads : LoadsTo options.any_run (options.any_run && options.unknown_zero) options.externals.items
-      (codes_of dumps k) k.trees k.listed
+      (codes_of dumps k) k.trees k.entries
 
 -- The dumps mean this listing, with these options: they load to it, and each body is the terms that it reads as in the
 -- namespace of all entries, or raw, where it reads as no terms.
 pub record Means (dumps : List Dump) (options : Options) (k : Meaning) : Type 0 where
   pub set : LoadsSet dumps options k
-  pub bodies : AllZip (IsEntry options.unknown_zero k.listed.entries (codes_of dumps k)) (methods_of k.listed.entries)
+  pub bodies : AllZip (IsEntry options.unknown_zero k.entries (codes_of dumps k)) (methods_of k.entries)
       k.bodies
-
--- whether a name outside the methods whose count nothing tells takes none
-abbrev pub none_unknown : Options → Bool
-none_unknown options = options.any_run && options.unknown_zero
-
--- what `LoadsSet` says of the tables' AML
-abbrev pub LoadsBy : Options → List (List ℕ) → List Trees → Listed → Type 0
-LoadsBy options codes trees m = LoadsTo options.any_run (none_unknown options) options.externals.items codes trees m
-
--- the indexes of the definition blocks
-abbrev pub order_of : Meaning → List ℕ
-order_of k = k.dsdt ∷ k.ssdts
 
 -- the rows of the namespace: the declared paths in order, each once, with what its declarations say
 abbrev pub rows_of : List Entry → List (List Seg × Declared)
@@ -67,7 +55,32 @@ rows_of es = finite.entries (declarations_in es)
 
 -- the text of a listing
 abbrev pub text_of : List Dump → Meaning → List ℕ
-text_of dumps k = listing_text dumps (order_of k) (rows_of k.listed.entries) (codes_of dumps k) k.trees k.bodies
+text_of dumps k = listing_text dumps (k.dsdt ∷ k.ssdts) (rows_of k.entries) (codes_of dumps k) k.trees k.bodies
+
+-- ---- The tables of a set, loaded in their order, before the bodies of their methods are read.
+
+-- the indexes of the definition blocks
+abbrev pub order_of : Meaning → List ℕ
+order_of k = k.dsdt ∷ k.ssdts
+
+-- whether a name outside the methods whose count nothing tells takes none
+abbrev pub none_unknown : Options → Bool
+none_unknown options = options.any_run && options.unknown_zero
+
+-- The tables' AML reads as these trees, which load to these entries, with these options.
+abbrev pub LoadsBy : Options → List (List ℕ) → List Trees → List Entry → Type 0
+LoadsBy options codes trees es = LoadsTo options.any_run (none_unknown options) options.externals.items codes trees es
+
+-- the tables of a set are those of this listing
+pub record HasTables (set : TableSet) (dumps : List Dump) (k : Meaning) : Type 0 where
+  pub named : table_dumps set.tables.items ≡ order_of k
+  pub holds : HoldsTables set (codes_of dumps k) k.trees k.entries
+
+-- a set is what the dumps load to, which is nothing else, and within the limit of methods
+pub record IsSet (dumps : List Dump) (options : Options) (set : TableSet) : Type 0 where
+  pub sound : (k : Meaning) × LoadsSet dumps options k × HasTables set dumps k
+  pub one : (k : Meaning) → LoadsSet dumps options k → HasTables set dumps k
+  pub few : length set.methods.items ≤ 1048576
 
 -- ---- a listing in memory
 
@@ -75,7 +88,7 @@ text_of dumps k = listing_text dumps (order_of k) (rows_of k.listed.entries) (co
 pub record HoldsSet (order : Order) (loaded : Loaded) (dumps : List Dump) (k : Meaning) : Type 0 where
   pub dsdt : order.dsdt ≡ k.dsdt
   pub ssdts : order.ssdts.items ≡ k.ssdts
-  pub holds : HoldsLoad loaded (codes_of dumps k) k.trees k.listed
+  pub holds : HoldsLoad loaded (codes_of dumps k) k.trees k.entries
 
 -- a listing in memory is this one, of these dumps
 pub record Shows (x : Listing) (dumps : List Dump) (k : Meaning) : Type 0 where
@@ -87,18 +100,5 @@ pub record Shows (x : Listing) (dumps : List Dump) (k : Meaning) : Type 0 where
 -- raw one is true of it, and the first that is met.
 abbrev pub Told : Listing → List Dump → Options → Meaning → Type 0
 Told x dumps options k =
-    AllZip (Became options.unknown_zero k.listed.entries (codes_of dumps k)) (methods_of k.listed.entries)
+    AllZip (Became options.unknown_zero k.entries (codes_of dumps k)) (methods_of k.entries)
     x.bodies.items
-
--- ---- The tables of a set, loaded in their order, before the bodies of their methods are read.
-
--- the tables of a set are those of this listing
-pub record HasTables (set : TableSet) (dumps : List Dump) (k : Meaning) : Type 0 where
-  pub named : table_dumps set.tables.items ≡ order_of k
-  pub holds : HoldsTables set (codes_of dumps k) k.trees k.listed
-
--- a set is what the dumps load to, which is nothing else, and within the limit of methods
-pub record IsSet (dumps : List Dump) (options : Options) (set : TableSet) : Type 0 where
-  pub sound : (k : Meaning) × LoadsSet dumps options k × HasTables set dumps k
-  pub one : (k : Meaning) → LoadsSet dumps options k → HasTables set dumps k
-  pub few : length set.methods.items ≤ 1048576

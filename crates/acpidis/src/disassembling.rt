@@ -1,7 +1,7 @@
 //! From the dumps of a set to its listing, the bodies read by workers.
 ghost use Rattle.std.specs.Prelude.{◌≡◌, ◌⊎◌, ◌≤◌, ℕ, Bool, true, List, IfOk, IfErr, length};
 ghost use Rattle.aml_code.specs.Tree.{Trees};
-ghost use Rattle.aml_load.specs.Loading.{Listed};
+ghost use Rattle.aml_namespace.specs.Namespace.{Entry};
 ghost use Rattle.aml_load.specs.Views.{HoldsTables};
 ghost use Rattle.aml_set.specs.Code.{AreShort};
 ghost use Rattle.aml_set.specs.Views.{codes_view, table_codes, table_dumps};
@@ -93,15 +93,15 @@ fn load_in<'a>(
     order: &Order,
 ) -> Result<TableSet<'a>, Refusal>
     ensures dumps { IfOk result (λ x. table_dumps x.tables.items ≡ table_dumps tables.entry.items) }
-    ensures sound { IfOk result (λ x. (trees : List Trees) × (m : Listed) ×
-        LoadsBy options.now (table_codes tables.entry.items) trees m ×
-        HoldsTables x (table_codes tables.entry.items) trees m) }
-    ensures one { IfOk result (λ x. (trees : List Trees) (m : Listed) →
-        LoadsBy options.now (table_codes tables.entry.items) trees m →
-        HoldsTables x (table_codes tables.entry.items) trees m) }
+    ensures sound { IfOk result (λ x. (trees : List Trees) × (es : List Entry) ×
+        LoadsBy options.now (table_codes tables.entry.items) trees es ×
+        HoldsTables x (table_codes tables.entry.items) trees es) }
+    ensures one { IfOk result (λ x. (trees : List Trees) (es : List Entry) →
+        LoadsBy options.now (table_codes tables.entry.items) trees es →
+        HoldsTables x (table_codes tables.entry.items) trees es) }
     ensures few { IfOk result (λ x. length x.methods.items ≤ 1048576) }
-    ensures complete { IfErr result (λ e. IsWant e ⊎ ((trees : List Trees) (m : Listed) →
-        LoadsBy options.now (table_codes tables.entry.items) trees m → ⊥)) }
+    ensures complete { IfErr result (λ e. IsWant e ⊎ ((trees : List Trees) (es : List Entry) →
+        LoadsBy options.now (table_codes tables.entry.items) trees es → ⊥)) }
     ensures tells { IfErr result (TellsLoad options.now (table_codes tables.entry.items) (indexes_in order.now)) }
     ensures of_load { IfErr result (λ e. (dumps : List Dump) (any_sum : Bool) → TellsTable dumps any_sum e) }
     ensures no_thread { IfErr result (λ e. ¬ (e ≡ Refusal.NoThread)) }

@@ -123,7 +123,7 @@ module _ (dumps : List Dump) (options : Options) (set : TableSet) (x : Contents)
   has_bodies true k it read = (
     read.0,
     rw (← it.holds.tables, ← it.holds.methods)
-        (reads_as options.unknown_zero set k.listed.entries it.holds.space set.methods.items read.0 read.1),
+        (reads_as options.unknown_zero set k.entries it.holds.space set.methods.items read.0 read.1),
     read.2,
   )
 
@@ -132,7 +132,7 @@ module _ (dumps : List Dump) (options : Options) (set : TableSet) (x : Contents)
   has_contents bodies k it are = record {
     tables = are.tables ∙ it.named;
     rows = subst (λ rows. AreValues row_text row_value rows x.rows)
-        (ap map.entries (declarations_alone set.space k.listed.entries it.holds.space)) are.rows;
+        (ap map.entries (declarations_alone set.space k.entries it.holds.space)) are.rows;
     methods = subst (λ ms. AreValues method_text method_value ms x.methods) it.holds.methods are.methods;
     read = has_bodies bodies k it are.read;
   }

@@ -160,15 +160,15 @@ kept_value at (Err fault) = record { at = at; length = 0; fault = body_number fa
 abbrev pub HasBodies : Bool → List Dump → Options → Meaning → Values BodyValue → Type 0
 HasBodies true dumps options k v =
     (rs : List Reading)
-    × AllZip (ReadsAs options.unknown_zero k.listed.entries (codes_of dumps k)) (methods_of k.listed.entries) rs
+    × AllZip (ReadsAs options.unknown_zero k.entries (codes_of dumps k)) (methods_of k.entries) rs
     × AreValues body_text body_value rs v
 HasBodies false dumps options k v = AreValues body_text body_value [] v
 
 -- its tables, as the indexes of their dumps in load order, its rows and its methods
 pub record HasContents (bodies : Bool) (dumps : List Dump) (options : Options) (k : Meaning) (x : Contents) : Type 0 where
   pub tables : x.tables.items ≡ order_of k
-  pub rows : AreValues row_text row_value (rows_of k.listed.entries) x.rows
-  pub methods : AreValues method_text method_value (methods_of k.listed.entries) x.methods
+  pub rows : AreValues row_text row_value (rows_of k.entries) x.rows
+  pub methods : AreValues method_text method_value (methods_of k.entries) x.methods
   pub read : HasBodies bodies dumps options k x.bodies
 
 -- The dumps load to a listing that has these contents, and to no other.

@@ -10,15 +10,18 @@ use Rattle.aml_code.specs.Tree.{Tree, nothing, named, op, Trees, no_trees, tree_
 use Rattle.aml_space.specs.declared.faults.SpaceFault.TheVariants as faults
 use Rattle.aml_namespace.specs.Namespace.{Givens}
 use Rattle.aml_load.specs.declared.faults.LoadFault.{LoadFault}
-use Rattle.aml_load.specs.Loading.{◌>>=◌, strict, Listed, first_listed, with_uses, role_of, kind_of, place_at, lead_at}
-use Rattle.aml_load.specs.Loading.{plain_entry, entry_at, declare_as, declare, declare_inside, declare_all}
+use Rattle.aml_load.specs.Declaring.{◌>>=◌, strict, Listed, first_listed, with_uses, place_at, lead_at, entry_at}
+use Rattle.aml_load.specs.Declaring.{declare_as, declare, declare_inside, declare_all}
+use Rattle.aml_load.specs.Loading.{role_of, kind_of, plain_entry}
 use Rattle.aml_load.specs.Running.{Front, table_front, asked, object_at, scope_at, enter_as, entered_at, behind_tree}
 use Rattle.aml_load.specs.Running.{behind_inside, behind_trees, behind_tables}
 use Rattle.aml_load.specs.Standing.{◌>>>◌, Standing, stands, inside_as, term_stands, inside_stand, all_stand}
-use Rattle.aml_load.specs.Standing.{tables_stand, run_term_stands, run_inside_stand, run_all_stand, run_tables_stand}
+use Rattle.aml_load.specs.Standing.{tables_stand, run_term_stands, run_inside_stand, run_all_stand, run_tables_stand, set_stands}
 use Rattle.aml_load.specs.StandingLaws.{alone_at, front_at, alone_by, each_alone, StandAsDeclared}
 use Rattle.aml_load.specs.Standings.{declare_tables}
+use Rattle.aml_load.specs.Tables.{ListsTo}
 use Rattle.aml_load.proofs.Founds.{load_declares}
+use Rattle.aml_load.proofs.Relating.{loads_so}
 
 abbrev Step : Type 0
 Step = Result Listed LoadFault
@@ -250,8 +253,14 @@ run_tables_alone t l m (ts ∷ rest) h =
     (λ j. run_tables_stand (suc t) j.listed rest) (λ j. behind_tables (suc t) j.listed rest)
     (λ j. run_all_alone (table_front t l) j ts refl) (λ j is. run_tables_alone (suc t) j.listed m rest) h
 
+alone_so : (any z : Bool) (gs : Givens) (tables : List (List ℕ)) (trees : List Trees) (m : Listed)
+    → ListsTo any z gs tables trees m → each_alone any (first_listed gs) (set_stands any gs trees) ≡ Ok m
+alone_so false z gs tables trees m lists =
+    tables_alone 0 (first_listed gs) m trees (load_declares false z gs tables trees m lists)
+alone_so true z gs tables trees m lists =
+    run_tables_alone 0 (first_listed gs) m trees (load_declares true z gs tables trees m lists)
+
 pub stand_as_declared : (any z : Bool) (gs : Givens) (tables : List (List ℕ)) → StandAsDeclared any z gs tables
-stand_as_declared false z gs tables trees m loads =
-    tables_alone 0 (first_listed gs) m trees (load_declares false z gs tables trees m loads)
-stand_as_declared true z gs tables trees m loads =
-    run_tables_alone 0 (first_listed gs) m trees (load_declares true z gs tables trees m loads)
+stand_as_declared any z gs tables trees es loads =
+    let lists = loads_so any z gs tables trees es loads in
+    (lists.0, alone_so any z gs tables trees (record { entries = es; uses = lists.0 }) lists.1)

@@ -11,7 +11,7 @@ use Rattle.aml_code.specs.declared.tree.Tail.{Tail}
 use Rattle.aml_code.specs.Tree.{Tree, named, op, tree_count}
 use Rattle.aml_code.specs.View.{node_view, nodes_view, parts_view, tail_view}
 use Rattle.aml_code.proofs.Views.{view-Named, view-Op}
-use Rattle.aml_load.specs.Loading.{Use, kinds_in, uses_in, all_uses, parts_uses, tail_uses}
+use Rattle.aml_load.specs.Declaring.{Use, kinds_in, uses_in, all_uses, parts_uses, tail_uses}
 
 as_many : (ns : List Node) → tree_count (nodes_view ns) ≡ length ns
 as_many [] = refl

@@ -15,7 +15,8 @@ use Rattle.aml_code.specs.Tree.{Tree, nothing, named, op, Trees, no_trees, tree_
 use Rattle.aml_code.proofs.RowFacts.{rows_say}
 use Rattle.aml_parse.specs.Running.{has_terms, is_block, ReadsTerms, Opens}
 use Rattle.aml_load.specs.declared.faults.LoadFault.{LoadFault}
-use Rattle.aml_load.specs.Loading.{◌>>=◌, role_of, Listed}
+use Rattle.aml_load.specs.Declaring.{◌>>=◌, Listed}
+use Rattle.aml_load.specs.Loading.{role_of}
 use Rattle.aml_load.specs.Running.{Front, table_front, asked, enter_as, entered_at, behind_tree, behind_inside}
 use Rattle.aml_load.specs.Running.{behind_trees, behind_tables, run_names}
 use Rattle.aml_load.specs.Tables.{ReadTables}

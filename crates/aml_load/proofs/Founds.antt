@@ -13,19 +13,22 @@ use Rattle.aml_code.specs.declared.tree.Tail.{Tail as CodeTail}
 use Rattle.aml_code.specs.Tree.{Tree, nothing, named, op, Trees}
 use Rattle.aml_code.specs.View.{node_view, parts_view, tail_view}
 use Rattle.aml_code.proofs.Views.{view-Op}
-use Rattle.aml_namespace.specs.Namespace.{Givens}
+use Rattle.aml_namespace.specs.Namespace.{Entry, Givens}
 use Rattle.aml_load.specs.declared.faults.LoadFault.{LoadFault}
 use Rattle.aml_load.specs.declared.faults.LoadFault.TheVariants as loads
 use Rattle.aml_load.specs.declared.standing.StandingTerm.{StandingTerm}
 use Rattle.aml_load.specs.declared.walking.Progress.{Progress}
-use Rattle.aml_load.specs.Loading.{◌>>=◌, Where, Listed, first_listed, with_uses, role_of}
+use Rattle.aml_load.specs.Declaring.{◌>>=◌, Listed, first_listed, with_uses}
+use Rattle.aml_load.specs.Loading.{Where, role_of}
 use Rattle.aml_load.specs.Running.{Front, entered_at, behind_tree}
 use Rattle.aml_load.specs.Standing.{◌>>>◌, Standing, stands, inside_as, term_stands, inside_stand}
 use Rattle.aml_load.specs.Standing.{run_term_stands}
 use Rattle.aml_load.specs.Standings.{standings_view, Found, declare_tables, set_declares, behind_within, within_stand}
-use Rattle.aml_load.specs.Tables.{Fails, ReadTables, LoadsTo}
+use Rattle.aml_load.specs.Loading.{LoadsTo}
+use Rattle.aml_load.specs.Tables.{Fails, ReadTables, ListsTo}
 use Rattle.aml_load.specs.Walking.{Walked}
 use Rattle.aml_load.proofs.Behind.{tables_behind}
+use Rattle.aml_load.proofs.Relating.{loads_so}
 
 -- a step that finds no term
 pub found_none : {X : Type 0} (new : Progress) (xs : List StandingTerm) (r : Result X LoadFault) (walk : Result Listed LoadFault)
@@ -68,18 +71,19 @@ read_declares t l (c ∷ cs) (ts ∷ rest) m (k, reads, read) =
     ap (λ (r : Result Listed LoadFault). r >>= λ j. declare_tables (suc t) j rest) reads.1 ∙ read_declares (suc t) k cs rest m read
 
 pub load_declares : (any z : Bool) (gs : Givens) (tables : List (List ℕ)) (trees : List Trees) (m : Listed)
-    → LoadsTo any z gs tables trees m → set_declares any gs trees ≡ Ok m
+    → ListsTo any z gs tables trees m → set_declares any gs trees ≡ Ok m
 load_declares false z gs tables trees m loads = read_declares 0 (first_listed gs) tables trees m loads.read
 load_declares true z gs tables trees m loads = tables_behind 0 (first_listed gs) tables trees m loads.read
 
 -- a fault of the trees' terms is want of memory, or no tables load to the trees
 pub refused : {X : Type 0} (r : Result X LoadFault) (any : Bool) (gs : Givens) (trees : List Trees)
     → IfErr r (λ e. Fails e (set_declares any gs trees))
-    → IfErr r (λ e. (e ≡ loads.NoMemory) ⊎ ((z : Bool) (tables : List (List ℕ)) (m : Listed) → LoadsTo any z gs tables trees m → ⊥))
+    → IfErr r (λ e. (e ≡ loads.NoMemory) ⊎ ((z : Bool) (tables : List (List ℕ)) (es : List Entry) → LoadsTo any z gs tables trees es → ⊥))
 refused (Ok x) any gs trees h = tt
 refused (Err e) any gs trees (inl want) = inl want
-refused (Err e) any gs trees (inr fails) = inr (λ z tables m loads.
-    let all : set_declares any gs trees ≡ Ok m = load_declares any z gs tables trees m loads in absurd (cc (all, fails)))
+refused (Err e) any gs trees (inr fails) = inr (λ z tables es loads.
+    let lists = loads_so any z gs tables trees es loads in
+    let all = load_declares any z gs tables trees (record { entries = es; uses = lists.0 }) lists.1 in absurd (cc (all, fails)))
 
 -- ---- a step where the code outside methods may run
 

@@ -1,16 +1,16 @@
 -- Names of one scope stand in one group: names more (`names_joined`), a group more (`group_more`), and scopes that are
 -- opened (`open_inside`).
-use Rattle.std.specs.Prelude.{slice_get, IfSome, flat_map}
+use Rattle.std.specs.Prelude.{slice_get, IfSome}
 use Rattle.std.proofs.lemmas.List.{length-append, get_or_append_left, flat_map_more, map-append}
 use Rattle.std.proofs.lemmas.Option.{slice_get-get_or}
 use Rattle.std.proofs.Common.{◌≡◌, ◌<◌, ℕ, List, [], ◌∷◌, ◌++◌, length, Option, Some, None, append_assoc, refl, sym, ap}
-use Rattle.std.proofs.Common.{◌∙◌, ◌+◌, arith}
+use Rattle.std.proofs.Common.{◌∙◌, arith}
 use Rattle.aml_names.specs.declared.segments.Seg.{Seg}
 use Rattle.aml_load.specs.declared.used.Asked.{Asked}
 use Rattle.aml_load.specs.declared.groups.Group.{Group}
 use Rattle.aml_load.specs.declared.groups.Groups.{Groups}
 use Rattle.aml_load.specs.Groups.{AreIn, group_uses, last_scope, named_in, use_in, uses_of}
-use Rattle.aml_load.specs.Loading.{Use}
+use Rattle.aml_load.specs.Declaring.{Use}
 
 pub last_is : (front : Option (List Seg)) (gs : List Group) (g : Group) → last_scope front (gs ++ g ∷ []) ≡ Some g.scope
 last_is front [] g = refl

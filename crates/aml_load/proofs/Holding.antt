@@ -31,9 +31,9 @@ use Rattle.aml_set.specs.declared.methods.Method.{Method}
 use Rattle.aml_set.specs.Numbers.{AreNumbered}
 use Rattle.aml_set.proofs.Numbers.{one_numbered, still_numbered}
 use Rattle.aml_load.specs.declared.walking.Progress.{Progress}
-use Rattle.aml_load.specs.Loading.{◌>>=◌, Where, Listed, plus, with_uses, term_uses, method_of, methods_of, role_of}
-use Rattle.aml_load.specs.Loading.{plain_entry, place_at, entry_at, new_at}
-use Rattle.aml_load.specs.Loading.{units_at, declare_as, declare, declare_inside}
+use Rattle.aml_load.specs.Declaring.{◌>>=◌, Listed, plus, with_uses, term_uses, place_at, entry_at, new_at, units_at}
+use Rattle.aml_load.specs.Declaring.{declare_as, declare, declare_inside}
+use Rattle.aml_load.specs.Loading.{Where, method_of, methods_of, role_of, plain_entry}
 use Rattle.aml_load.specs.Tables.{Fails}
 use Rattle.aml_load.specs.declared.groups.Groups.{Groups}
 use Rattle.aml_load.specs.Groups.{AreIn, uses_of}

@@ -7,6 +7,9 @@ pub mod BodyLaws
 pub mod NoSpans
 pub mod SpanLaws
 pub mod Asking
+pub mod Agreeing
+pub mod Doing
+pub mod Relating
 pub mod RunSpans
 pub mod Ran
 pub mod Behind

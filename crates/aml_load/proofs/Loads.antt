@@ -29,13 +29,16 @@ use Rattle.aml_set.specs.declared.loaded.Loaded.{Loaded}
 use Rattle.aml_set.specs.declared.methods.Method.{Method}
 use Rattle.aml_load.specs.declared.faults.LoadFault.{LoadFault}
 use Rattle.aml_load.specs.declared.faults.LoadFault.TheVariants as loads
-use Rattle.aml_load.specs.Loading.{◌>>=◌, Listed, Use, first_listed, strict, declare_all, use_count, call_fault}
-use Rattle.aml_load.specs.Loading.{methods_of, most_methods, uses_at}
+use Rattle.aml_load.specs.Declaring.{◌>>=◌, Listed, Use, first_listed, strict, declare_all, use_count, call_fault}
+use Rattle.aml_load.specs.Declaring.{most_methods, uses_at}
+use Rattle.aml_load.specs.Loading.{methods_of}
 use Rattle.aml_load.specs.Running.{Front, table_front, run_names}
-use Rattle.aml_load.specs.Tables.{ReadsOne, ReadTables, LoadsTo, StopsOne, StopsTables, StopsFor, in_code, table_at}
+use Rattle.aml_load.specs.Loading.{LoadsTo}
+use Rattle.aml_load.specs.Tables.{ReadsOne, ReadTables, ListsTo, StopsOne, StopsTables, StopsFor, in_code, table_at}
 use Rattle.aml_load.specs.Tables.{tables_at, load_at, GivesBy, GivesLoad, Fails}
-use Rattle.aml_load.specs.Tables.{LoadsOneWay, LoadsForward, LoadsAgain, AreSpelled}
-use Rattle.aml_load.proofs.RunSpans.{loads_in_text_order}
+use Rattle.aml_load.specs.Tables.{LoadsOneWay, LoadsForward, LoadsAgain, AreSpelled, LoadsInTextOrder}
+use Rattle.aml_load.proofs.Relating.{loads_is, loads_so}
+use Rattle.aml_load.proofs.RunSpans.{lists_in_text_order}
 
 never : {X E : Type 0} (x : X) (e : E) (r : Result X E) → r ≡ Ok x → r ≡ Err e → ⊥
 never x e r p q = absurd (cc (p, q))
@@ -187,13 +190,15 @@ module _ (any z : Bool) (gs : Givens) (cs : List (List ℕ)) where
   check x = uses_at any z x.1.entries x.1.uses >>= λ u. Ok x
 
   abbrev LoadTells : Result Whole LoadFault → Type 0
-  LoadTells r = MatchResult r (λ x. LoadsTo any z gs cs x.0 x.1) (λ e. StopsFor any z gs cs e)
+  LoadTells r = MatchResult r (λ x. LoadsTo any z gs cs x.0 x.1.entries) (λ e. StopsFor any z gs cs e)
 
   uses_told : (x : Whole) (trees : List Trees) → x.0 ≡ trees → ReadTables any 0 (first_listed gs) cs trees x.1
       → (r : Result (Unit {0}) LoadFault)
       → uses_at any z x.1.entries x.1.uses ≡ r → LoadTells (r >>= λ u. Ok x)
-  uses_told x trees same read (Ok u) is =
-      record { read = subst (λ (ts : List Trees). ReadTables any 0 (first_listed gs) cs ts x.1) (sym same) read; agreed = uses_agree any z x.1.entries x.1.uses u is }
+  uses_told x trees same read (Ok u) is = loads_is any z gs cs x.0 x.1 (record {
+    read = subst (λ (ts : List Trees). ReadTables any 0 (first_listed gs) cs ts x.1) (sym same) read;
+    agreed = uses_agree any z x.1.entries x.1.uses u is;
+  })
   uses_told x trees same read (Err e) is = inr (trees, x.1, read, is)
 
   after_tables : (r : Result Whole LoadFault) → Told any 0 (first_listed gs) [] cs r → LoadTells (r >>= check)
@@ -222,23 +227,32 @@ module _ (any z : Bool) (gs : Givens) (cs : List (List ℕ)) where
   load_refused ts m us e read is (inr refused) = inr (ap (λ (r : Result Whole LoadFault). r >>= check) read
       ∙ ap (λ (r : Result (Unit {0}) LoadFault). r >>= λ u. Ok (ts, m)) (ap (uses_at any z m.entries) (sym is) ∙ refused))
 
-  pub loads_again : LoadsAgain any z gs cs
-  loads_again ts m h = load_gives ts m m.uses tt (tables_again any 0 (first_listed gs) [] cs ts m h.read) refl (agreed_uses any z m.entries m.uses h.agreed)
+  lists_again : (ts : List Trees) (m : Listed) → ListsTo any z gs cs ts m → load_at any z gs cs ≡ Ok (ts, m)
+  lists_again ts m h = load_gives ts m m.uses tt (tables_again any 0 (first_listed gs) [] cs ts m h.read) refl (agreed_uses any z m.entries m.uses h.agreed)
 
-  same : (x y : Whole) (r : Result Whole LoadFault) → r ≡ Ok x → r ≡ Ok y → x ≡ y
-  same x y r p q = cc
+  pub loads_again : LoadsAgain any z gs cs
+  loads_again ts es h = let lists = loads_so any z gs cs ts es h in (lists.0, lists_again ts (record { entries = es; uses = lists.0 }) lists.1)
+
+  -- whatever was loaded before is what is loaded again
+  again_is : (x : Whole) (ts : List Trees) (es : List Entry) → load_at any z gs cs ≡ Ok x → LoadsTo any z gs cs ts es
+      → (x.0 ≡ ts) × (x.1.entries ≡ es)
+  again_is x ts es is h =
+      let again = loads_again ts es h in
+      let both : x ≡ (ts, record { entries = es; uses = again.0 }) = (let second = again.1 in cc) in
+      (ap (λ (x : Whole). x.0) both, ap (λ (x : Whole). x.1.entries) both)
 
   pub loads_one_way : LoadsOneWay any z gs cs
-  loads_one_way ts us m n h g =
-      let one = same (ts, m) (us, n) (load_at any z gs cs) (loads_again ts m h) (loads_again us n g) in
-      (ap (λ (x : Whole). x.0) one, ap (λ (x : Whole). x.1) one)
+  loads_one_way ts us es fs h g = let again = loads_again ts es h in again_is _ us fs again.1 g
 
   pub are_spelled : AreSpelled any z gs cs
-  are_spelled trees m h = tables_spelled any 0 (first_listed gs) cs trees m h.read
+  are_spelled trees es h = tables_spelled any 0 (first_listed gs) cs trees _ (loads_so any z gs cs trees es h).1.read
+
+  pub loads_in_text_order : LoadsInTextOrder any z gs cs
+  loads_in_text_order trees es h = lists_in_text_order any z gs cs trees _ (loads_so any z gs cs trees es h).1
 
   -- ---- the same of what a function gave, whatever holds what was loaded
 
-  module _ {X : Type 0} (HoldsIt : X → List (List ℕ) → List Trees → Listed → Type 0) where
+  module _ {X : Type 0} (HoldsIt : X → List (List ℕ) → List Trees → List Entry → Type 0) where
     -- memory was refused, or the tables are bytes
     abbrev Fit : Result X LoadFault → Type 0
     Fit r = (r ≡ Err loads.NoMemory) ⊎ AreCodes cs
@@ -248,32 +262,32 @@ module _ (any z : Bool) (gs : Givens) (cs : List (List ℕ)) where
     fit_so x (inr fits) = fits
 
     pub given_sound : (r : Result X LoadFault) → Fit r → GivesBy HoldsIt any z gs r cs
-        → IfOk r (λ x. (trees : List Trees) × (m : Listed) × LoadsTo any z gs cs trees m × HoldsIt x cs trees m)
-    given_sound (Ok x) fits g = (g.0, g.1, subst LoadTells g.3 (loads_forward (fit_so x fits)), g.2)
+        → IfOk r (λ x. (trees : List Trees) × (es : List Entry) × LoadsTo any z gs cs trees es × HoldsIt x cs trees es)
+    given_sound (Ok x) fits g = (g.0, g.1.entries, subst LoadTells g.3 (loads_forward (fit_so x fits)), g.2)
     given_sound (Err e) fits g = tt
 
     pub given_few : (methods : X → List Method)
-        → ((x : X) (trees : List Trees) (m : Listed) → HoldsIt x cs trees m → methods x ≡ methods_of m.entries)
+        → ((x : X) (trees : List Trees) (es : List Entry) → HoldsIt x cs trees es → methods x ≡ methods_of es)
         → (r : Result X LoadFault) → Fit r → GivesBy HoldsIt any z gs r cs
         → IfOk r (λ x. length (methods x) ≤ most_methods)
     unfolding given_sound
     given_few methods held (Ok x) fits g =
         let load = (given_sound (Ok x) fits g).2 in
-        subst (λ ms. length ms ≤ most_methods) (sym (held x g.0 g.1 g.2)) (loads_in_text_order any z gs cs g.0 g.1 load).1
+        subst (λ ms. length ms ≤ most_methods) (sym (held x g.0 g.1.entries g.2)) load.few
     given_few methods held (Err e) fits g = tt
 
     pub given_one : (r : Result X LoadFault) → GivesBy HoldsIt any z gs r cs
-        → IfOk r (λ x. (trees : List Trees) (m : Listed) → LoadsTo any z gs cs trees m → HoldsIt x cs trees m)
-    given_one (Ok x) g = λ trees m h.
-        let is = same (g.0, g.1) (trees, m) (load_at any z gs cs) g.3 (loads_again trees m h) in
-        subst (λ (y : Whole). HoldsIt x cs y.0 y.1) is g.2
+        → IfOk r (λ x. (trees : List Trees) (es : List Entry) → LoadsTo any z gs cs trees es → HoldsIt x cs trees es)
+    given_one (Ok x) g = λ trees es h.
+        let is = again_is (g.0, g.1) trees es g.3 h in
+        subst (λ (fs : List Entry). HoldsIt x cs trees fs) is.1 (subst (λ (ts : List Trees). HoldsIt x cs ts g.1.entries) is.0 g.2)
     given_one (Err e) g = tt
 
     pub given_complete : (r : Result X LoadFault) → GivesBy HoldsIt any z gs r cs
-        → IfErr r (λ e. (e ≡ loads.NoMemory) ⊎ ((trees : List Trees) (m : Listed) → LoadsTo any z gs cs trees m → ⊥))
+        → IfErr r (λ e. (e ≡ loads.NoMemory) ⊎ ((trees : List Trees) (es : List Entry) → LoadsTo any z gs cs trees es → ⊥))
     given_complete (Ok x) g = tt
     given_complete (Err e) (inl g) = inl g
-    given_complete (Err e) (inr g) = inr (λ trees m h. never (trees, m) e (load_at any z gs cs) (loads_again trees m h) g)
+    given_complete (Err e) (inr g) = inr (λ trees es h. let again = loads_again trees es h in never _ e (load_at any z gs cs) again.1 g)
 
     pub given_true : (r : Result X LoadFault) → Fit r → GivesBy HoldsIt any z gs r cs
         → IfErr r (λ e. (e ≡ loads.NoMemory) ⊎ StopsFor any z gs cs e)

@@ -27,7 +27,7 @@ use Rattle.aml_namespace.specs.Runs.{Outlook, agreed_arity}
 use Rattle.aml_namespace.proofs.Stands.{same_outlook}
 use Rattle.std.specs.Option.{unwrap_or}
 use Rattle.aml_load.specs.declared.faults.LoadFault.{LoadFault}
-use Rattle.aml_load.specs.Loading.{◌>>=◌, Listed, code_fault}
+use Rattle.aml_load.specs.Declaring.{◌>>=◌, Listed, code_fault}
 use Rattle.aml_load.specs.Running.{Front, counts_in, entered_at, run_names}
 use Rattle.aml_load.specs.declared.runner.Rest.{Rest}
 use Rattle.aml_load.specs.declared.runner.RunSite.{RunSite}

@@ -23,21 +23,19 @@ use Rattle.aml_parse.specs.Running.{has_terms, is_block, ReadsTerms, Opens}
 use Rattle.aml_parse.proofs.Forward.{is_run, runs_on}
 use Rattle.aml_namespace.specs.Namespace.{Givens, external}
 use Rattle.aml_load.specs.declared.faults.LoadFault.{LoadFault}
-use Rattle.aml_load.specs.Loading.{◌>>=◌, role_of, kind_of, Listed, first_listed, byte_of, body_span, first_label}
-use Rattle.aml_load.specs.Loading.{methods_of, most_methods, plain_entry}
-use Rattle.aml_load.specs.Loading.{place_at, lead_at, entry_at, method_at, alias_at, external_at, units_at, declare_as}
-use Rattle.aml_load.specs.Spans.{Span, tree_spans, all_spans, parts_spans, tail_spans, tables_spans, method_span}
+use Rattle.aml_load.specs.Declaring.{◌>>=◌, Listed, first_listed, byte_of, body_span, first_label, most_methods}
+use Rattle.aml_load.specs.Declaring.{place_at, lead_at, entry_at, method_at, alias_at, external_at, units_at}
+use Rattle.aml_load.specs.Declaring.{declare_as}
+use Rattle.aml_load.specs.Loading.{role_of, kind_of, methods_of, plain_entry}
+use Rattle.aml_load.specs.Spans.{Span, tree_spans, all_spans, parts_spans, tail_spans, tables_spans, method_span, InTextOrder}
 use Rattle.aml_load.specs.Running.{Front, table_front, asked, opened_at, object_at, scope_at, enter_as, entered_at}
 use Rattle.aml_load.specs.Running.{run_names}
-use Rattle.aml_load.specs.Tables.{ReadsOne, ReadTables, LoadsTo, LoadsInTextOrder}
+use Rattle.aml_load.specs.Tables.{ReadsOne, ReadTables, ListsTo}
 use Rattle.aml_load.proofs.Givens.{no_methods}
 use Rattle.aml_load.proofs.NoSpans.{parts_none, all_none, tail_none}
 use Rattle.aml_load.proofs.SpanLaws.{role_is, one_span, Adds, nothing_more, then_adds, plain_adds, method_adds}
 use Rattle.aml_load.proofs.SpanLaws.{GivesMore}
 use Rattle.aml_load.proofs.SpanLaws.{unless_adds, after_adds, entry_adds, new_adds, units_add, module_adds}
-use Rattle.std.proofs.Common.{slice_get}
-use Rattle.std.proofs.lemmas.List.{length-map}
-use Rattle.std.proofs.lemmas.Option.{slice_get-map}
 
 -- ---- what the rows say of terms of such tables
 
@@ -239,23 +237,13 @@ tables_add any t l (c ∷ codes) (xs ∷ trees) m (k, reads, read) =
     then_adds l.entries k.entries m.entries (all_spans t xs) (tables_spans (suc t) trees) (table_adds any t l c xs k reads)
     (tables_add any (suc t) k codes trees m read)
 
-module _ (any z : Bool) (gs : Givens) (tables : List (List ℕ)) where
-  -- The methods that tables load to are those whose bodies stand in the trees, in load order and in the order of the
-  -- text, and there aren't too many.
-  pub loads_in_text_order : LoadsInTextOrder any z gs tables
-  loads_in_text_order trees m h =
-      let all = tables_add any 0 (first_listed gs) tables trees m h.read in (
-        all.grow ∙ ap (λ ms. map method_span ms ++ tables_spans 0 trees) (no_methods gs),
-        all.few (subst (λ ms. length ms ≤ most_methods) (sym (no_methods gs)) (omega arith)),
-      )
-
-  -- there are as many methods as bodies
-  pub as_many : (trees : List Trees) (m : Listed) → LoadsTo any z gs tables trees m
-      → length (methods_of m.entries) ≡ length (tables_spans 0 trees)
-  as_many trees m h = sym (length-map (methods_of m.entries) method_span) ∙ ap length (loads_in_text_order trees m h).0
-
-  -- the method with a number is that of the body with this number
-  pub body_of_number : (trees : List Trees) (m : Listed) (i : ℕ) → LoadsTo any z gs tables trees m
-      → slice_get (tables_spans 0 trees) i ≡ option_map method_span (slice_get (methods_of m.entries) i)
-  body_of_number trees m i h =
-      ap (λ spans. slice_get spans i) (sym (loads_in_text_order trees m h).0) ∙ slice_get-map method_span (methods_of m.entries) i
+-- The methods of what is listed are those whose bodies stand in the trees, in load order and in the order of the text,
+-- and there aren't too many.
+pub lists_in_text_order : (any z : Bool) (gs : Givens) (tables : List (List ℕ)) (trees : List Trees) (m : Listed)
+    → ListsTo any z gs tables trees m
+    → InTextOrder trees m.entries × (length (methods_of m.entries) ≤ most_methods)
+lists_in_text_order any z gs tables trees m h =
+    let all = tables_add any 0 (first_listed gs) tables trees m h.read in (
+      all.grow ∙ ap (λ ms. map method_span ms ++ tables_spans 0 trees) (no_methods gs),
+      all.few (subst (λ ms. length ms ≤ most_methods) (sym (no_methods gs)) (omega arith)),
+    )

@@ -30,13 +30,12 @@ use Rattle.aml_code.specs.Lawful.{no_arguments}
 use Rattle.aml_code.proofs.RowFacts.{and_left, and_right, rows_say}
 use Rattle.aml_parse.specs.Reading.{takes_names}
 use Rattle.aml_namespace.specs.declared.kinds.Kind.TheVariants as kinds
-use Rattle.aml_namespace.specs.Namespace.{Entry, declares, external, declared_at}
+use Rattle.aml_namespace.specs.Namespace.{Entry, external, declared_at}
 use Rattle.aml_load.specs.declared.faults.LoadFault.{LoadFault}
-use Rattle.aml_load.specs.Loading.{◌>>=◌, role_of, kind_of, Where, strict, under, Listed, with_uses, first_label}
-use Rattle.aml_load.specs.Loading.{byte_of, body_span, plain_entry, method_entry}
-use Rattle.aml_load.specs.Loading.{methods_of, most_methods, place_at, lead_at, entry_at, new_at, method_at, alias_at}
-use Rattle.aml_load.specs.Loading.{external_at, units_at, declare_as}
-use Rattle.aml_load.specs.Loading.{declare, declare_inside, declare_all}
+use Rattle.aml_load.specs.Declaring.{◌>>=◌, strict, under, Listed, with_uses, first_label, byte_of, body_span}
+use Rattle.aml_load.specs.Declaring.{most_methods, place_at, lead_at, entry_at, new_at, method_at, alias_at}
+use Rattle.aml_load.specs.Declaring.{external_at, units_at, declare_as, declare, declare_inside, declare_all}
+use Rattle.aml_load.specs.Loading.{role_of, kind_of, Where, plain_entry, method_entry, methods_of}
 use Rattle.aml_load.specs.Spans.{Span, method_span, tree_spans, all_spans, parts_spans, tail_spans, fields_spans}
 use Rattle.aml_load.proofs.Holding.{methods_more}
 use Rattle.aml_load.proofs.NoSpans.{terms_tail, body_tail, parts_none, all_none, tail_none, elements_none}
@@ -44,19 +43,19 @@ use Rattle.aml_load.proofs.NoSpans.{fields_tail_none}
 
 -- ---- what the rows say of the terms of tables, by a test over the whole table of opcodes
 
-pub is_body : Option TailKind → Bool
+unfoldable pub is_body : Option TailKind → Bool
 is_body (Some tails.Body) = true
 is_body _ = false
 
-is_terms : Option TailKind → Bool
+unfoldable pub is_terms : Option TailKind → Bool
 is_terms (Some tails.Terms) = true
 is_terms _ = false
 
-is_flat : Option TailKind → Bool
+unfoldable pub is_flat : Option TailKind → Bool
 is_flat k = not (is_body k) && not (is_terms k)
 
 -- a method has a body, and no other term of a table has one; terms stand in what loading goes into
-fits : Role → Option TailKind → Bool
+unfoldable pub fits : Role → Option TailKind → Bool
 fits (roles.Declares o) k = not (is_body k)
 fits roles.Method k = is_body k
 fits roles.Scope k = not (is_body k)
@@ -66,7 +65,7 @@ fits roles.Fields k = is_flat k
 fits roles.Guard k = not (is_body k)
 fits roles.Other k = is_flat k
 
-flat_terms : (k : Option TailKind) → is_flat k ≡ true → k ≡ Some tails.Terms → ⊥
+pub flat_terms : (k : Option TailKind) → is_flat k ≡ true → k ≡ Some tails.Terms → ⊥
 unfolding is_flat is_body is_terms
 flat_terms k h e = let x : is_flat (Some tails.Terms) ≡ true = subst (λ (k : Option TailKind). is_flat k ≡ true) e h in absurd cc
 
@@ -84,17 +83,17 @@ module_inside places.If = refl
 module_inside _ = refl
 
 -- there each tail is kept
-kept_in_table : (p : Position) (k : Option TailKind) → takes_names p ≡ false → option_map (tail_in p) k ≡ k
+pub kept_in_table : (p : Position) (k : Option TailKind) → takes_names p ≡ false → option_map (tail_in p) k ≡ k
 kept_in_table p None h = refl
 kept_in_table positions.ModuleTerm (Some k) h = refl
 kept_in_table positions.GuardTerm (Some k) h = refl
 kept_in_table _ (Some k) h = absurd cc
 
 -- a row fits in a position of a table, where the terms inside it are terms of a table too
-abbrev Fits : Position → Row → Type 0
+abbrev pub Fits : Position → Row → Type 0
 Fits p r = (fits r.role r.tail ≡ true) × (r.tail ≡ Some tails.Terms → takes_names (terms_in p r.place) ≡ false)
 
-row_fits : (p : Position) (o : ℕ) (r : Row) → takes_names p ≡ false → row_of o ≡ Some r → takes p r.place ≡ true
+pub row_fits : (p : Position) (o : ℕ) (r : Row) → takes_names p ≡ false → row_of o ≡ Some r → takes p r.place ≡ true
     → Fits p r
 unfolding rows fits is_flat is_body is_terms
 row_fits positions.ModuleTerm o r h listed taken =
@@ -104,7 +103,7 @@ row_fits positions.GuardTerm o r h listed taken =
     (and_left (fits r.role r.tail) (is_flat r.tail) both, λ e. absurd (flat_terms r.tail (and_right (fits r.role r.tail) (is_flat r.tail) both) e))
 row_fits _ o r h listed taken = absurd cc
 
-next_in_table : (p : Position) (x : Tree) → takes_names p ≡ false → takes_names (next_position p x) ≡ false
+pub next_in_table : (p : Position) (x : Tree) → takes_names p ≡ false → takes_names (next_position p x) ≡ false
 next_in_table positions.ModuleTerm x h = refl
 next_in_table positions.GuardTerm x h = refl
 next_in_table _ x h = absurd cc

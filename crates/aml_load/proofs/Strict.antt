@@ -19,12 +19,12 @@ use Rattle.aml_namespace.specs.Namespace.{declared_at}
 use Rattle.aml_namespace.specs.Runs.{is_open_alias, AreSure, StaysAsItIs, times_at}
 use Rattle.aml_namespace.proofs.Strict.{never_open}
 use Rattle.aml_load.specs.declared.faults.LoadFault.{LoadFault}
-use Rattle.aml_load.specs.Loading.{◌>>=◌, role_of, kind_of, Where, strict, Listed, first_listed, with_uses, byte_of}
-use Rattle.aml_load.specs.Loading.{first_label}
-use Rattle.aml_load.specs.Loading.{most_methods, methods_of, plain_entry, place_at, lead_at, entry_at, new_at, method_at, alias_at}
-use Rattle.aml_load.specs.Loading.{external_at, units_at, declare_as}
-use Rattle.aml_load.specs.Loading.{declare, declare_inside, declare_all}
+use Rattle.aml_load.specs.Declaring.{◌>>=◌, strict, Listed, first_listed, with_uses, byte_of, first_label, most_methods}
+use Rattle.aml_load.specs.Declaring.{place_at, lead_at, entry_at, new_at, method_at, alias_at, external_at, units_at}
+use Rattle.aml_load.specs.Declaring.{declare_as, declare, declare_inside, declare_all}
+use Rattle.aml_load.specs.Loading.{role_of, kind_of, Where, methods_of, plain_entry}
 use Rattle.aml_load.specs.Tables.{ReadTables, LoadsStrictly}
+use Rattle.aml_load.proofs.Relating.{loads_so}
 
 -- ---- entries more
 
@@ -214,7 +214,8 @@ given_times (g ∷ gs) q = given_times gs q
 
 pub loads_strictly : ((es : List Entry) → AreSure es → StaysAsItIs es)
     → (z : Bool) (gs : Givens) (tables : List (List ℕ)) → LoadsStrictly z gs tables
-loads_strictly stays z gs tables trees m h =
+loads_strictly stays z gs tables trees es h =
+    let lists = loads_so false z gs tables trees es h in
     let first : Plain (given_entries gs) = record { sure = given_sure gs; once = λ q. omega (arith, given_times gs q) } in
-    let last = tables_keep 0 (first_listed gs) tables trees m first h.read in
-    record { sure = last.sure; once = last.once; counts = stays m.entries last.sure }
+    let last = tables_keep 0 (first_listed gs) tables trees (record { entries = es; uses = lists.0 }) first lists.1.read in
+    record { sure = last.sure; once = last.once; counts = stays es last.sure }

@@ -1,5 +1,5 @@
 -- A stepping stone: the names outside the methods in groups of one scope.
-use Rattle.std.specs.Prelude.{◌≡◌, ℕ, ◌<◌, Bool, List, [], ◌∷◌, length, map as map_list, flat_map, slice_get}
+use Rattle.std.specs.Prelude.{◌≡◌, ℕ, ◌<◌, List, [], ◌∷◌, length, map as map_list, flat_map, slice_get}
 use Rattle.std.specs.Prelude.{Option, Some, None, IfSome}
 use Rattle.aml_names.specs.declared.names.Name.{Name}
 use Rattle.aml_names.specs.declared.segments.Seg.{Seg}
@@ -7,7 +7,7 @@ use Rattle.aml_load.specs.declared.used.Asked.{Asked}
 use Rattle.aml_load.specs.declared.uses.Asker.{Asker}
 use Rattle.aml_load.specs.declared.groups.Group.{Group}
 use Rattle.aml_load.specs.declared.groups.Groups.{Groups}
-use Rattle.aml_load.specs.Loading.{Use, use_of, strict}
+use Rattle.aml_load.specs.Declaring.{Use, use_of, strict}
 
 -- a name that stands in a scope
 abbrev pub use_in : List Seg → Asked → Use

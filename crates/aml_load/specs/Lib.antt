@@ -1,5 +1,6 @@
 pub mod Groups
 pub mod Loading
+pub mod Declaring
 pub mod Views
 pub mod Spans
 pub mod Running

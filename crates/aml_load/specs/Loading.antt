@@ -1,38 +1,44 @@
--- What the terms of tables declare, and where a load stops (ACPI 6.5, 5.2.11, 5.3, 20.2.5.1 and 20.2.5.2).
-use Rattle.std.specs.Prelude.{ℕ, Option, Some, None, Bool, true, false, List, [], ◌∷◌, ◌++◌, ◌≡◌, ◌%◌, length}
-use Rattle.std.specs.Prelude.{Result, Ok, Err, is_some, nat_le, if◌then◌else◌, cond, not, ◌&&◌, ◌||◌, nat_eq, take, ◌-◌}
-use Rattle.std.specs.List.{filter_map, list_all}
-use Rattle.std.specs.Option.{unwrap_or, option_map, option_and_then, option_eq, ok_or}
-use Rattle.std.specs.FinSet as set
-use Rattle.aml_names.specs.declared.faults.CodeFault.{CodeFault}
-use Rattle.aml_names.specs.declared.faults.CodeFault.TheVariants as codes
+-- What tables load to: the terms that their AML reads as, and one list of entries (ACPI 6.5, 5.2.11, 5.3, 20.2.5.1 and
+-- 20.2.5.2).
+use Rattle.std.specs.Prelude.{◌≡◌, ◌≤◌, ℕ, suc, ◌+◌, ◌-◌, Bool, true, false, not, ◌&&◌, ◌||◌, cond, List, [], ◌∷◌, ◌++◌}
+use Rattle.std.specs.Prelude.{length, map, Option, Some, None, is_some, ◌%◌, take}
+use Rattle.std.specs.Option.{option_or, unwrap_or, option_map}
 use Rattle.aml_names.specs.declared.segments.Seg.{Seg}
 use Rattle.aml_names.specs.declared.names.Name.{Name}
 use Rattle.aml_names.specs.Names.{placed}
-use Rattle.aml_code.specs.declared.rows.Group.{Group}
-use Rattle.aml_code.specs.declared.rows.Group.TheVariants as groups
-use Rattle.aml_code.specs.declared.rows.Object.{Object}
-use Rattle.aml_code.specs.declared.rows.Object.TheVariants as objects
-use Rattle.aml_code.specs.declared.rows.PartKind.{PartKind}
-use Rattle.aml_code.specs.declared.rows.PartKind.TheVariants as part_kinds
+use Rattle.aml_code.specs.declared.rows.Position.{Position}
 use Rattle.aml_code.specs.declared.rows.Role.{Role}
-use Rattle.aml_code.specs.declared.rows.Role.TheVariants as roles
-use Rattle.aml_code.specs.Faults.{StandsAt}
-use Rattle.aml_code.specs.Lawful.{last_label, last_byte, field_names, no_arguments, ReadsModule}
+use Rattle.aml_code.specs.Faults.{Arities, most_levels}
+use Rattle.aml_code.specs.Lawful.{last_label, field_names, setting_of, IsLawful, ReadsModule, ReadsStep, next_position}
+use Rattle.aml_code.specs.Tree.{Tree, op, Trees, no_trees, tree_more, Parts, no_parts, part_more, label, byte, Tail}
+use Rattle.aml_code.specs.Tree.{terms, body}
+use Rattle.aml_parse.specs.Running.{is_block}
+use Rattle.aml_namespace.specs.Namespace.{Entry, external, given, declared_at, namespace_of, found, declares, kind_at}
+use Rattle.aml_namespace.specs.Runs.{outlook_of, scope_in, agreed_arity, sure_at, open_in, agreed_path}
+use Rattle.std.specs.List.{filter_map, list_all}
+use Rattle.aml_code.specs.declared.rows.Group.{Group}
+use Rattle.aml_code.specs.declared.rows.Object.{Object}
 use Rattle.aml_code.specs.Opcodes.{row_of}
-use Rattle.aml_code.specs.Tree.{Tree, nothing, named, op, Trees, no_trees, tree_more, Part, child, Parts}
-use Rattle.aml_code.specs.Tree.{part_more, Tail, elements, fields, Field, connection, Fields, no_fields, field_more}
-use Rattle.aml_code.specs.Tree.{buffer, label, terms, body, tree_count}
-use Rattle.aml_space.specs.declared.faults.SpaceFault.{SpaceFault}
-use Rattle.aml_space.specs.declared.faults.SpaceFault.TheVariants as faults
 use Rattle.aml_namespace.specs.declared.kinds.Kind.{Kind}
-use Rattle.aml_namespace.specs.declared.kinds.Kind.TheVariants as kinds
-use Rattle.aml_namespace.specs.Namespace.{Entry, Givens, declares, external, given_entries, declared_at, namespace_of}
-use Rattle.aml_namespace.specs.Namespace.{kind_at, found}
-use Rattle.aml_namespace.specs.Runs.{outlook_of, sure_at, open_in, agreed_arity, agreed_path}
-use Rattle.aml_load.specs.declared.faults.LoadFault.{LoadFault}
-use Rattle.aml_load.specs.declared.faults.LoadFault.TheVariants as loads
 use Rattle.aml_set.specs.declared.methods.Method.{Method}
+use Rattle.std.specs.FinSet as set
+use Rattle.aml_code.specs.declared.rows.Position.TheVariants as positions
+use Rattle.aml_code.specs.declared.rows.Role.TheVariants as roles
+use Rattle.aml_namespace.specs.declared.kinds.Kind.TheVariants as kinds
+use Rattle.aml_code.specs.declared.rows.Group.TheVariants as groups
+use Rattle.aml_code.specs.declared.rows.Object.TheVariants as objects
+
+-- ---- Where a term stands.
+
+-- The table, by its place in load order, and the scope; whether the code outside methods may run; and whether what the
+-- term declares is declared in every run of it. Where that code may not run, everything is.
+pub record Where : Type 0 where
+  pub table : ℕ
+  pub scope : List Seg
+  pub any_run : Bool
+  pub sure : Bool
+
+-- ---- The role of a term, and which terms are declarations.
 
 -- the role of an opcode; an opcode that has no row does nothing
 unfoldable pub role_of : ℕ → Role
@@ -50,36 +56,6 @@ kind_of objects.Processor = kinds.Processor
 kind_of objects.PowerResource = kinds.PowerResource
 kind_of objects.ThermalZone = kinds.ThermalZone
 
--- ---- Where a term stands.
-
--- The table, by its place in load order, and the scope; whether the code outside methods may run; and whether what the
--- term declares is declared in every run of it. Where that code may not run, everything is.
-pub record Where : Type 0 where
-  pub table : ℕ
-  pub scope : List Seg
-  pub any_run : Bool
-  pub sure : Bool
-
--- in this scope of table t, where the code outside methods may not run
-abbrev pub strict : ℕ → List Seg → Where
-strict t scope = record { table = t; scope = scope; any_run = false; sure = true }
-
--- the same with another scope
-abbrev pub under : Where → List Seg → Where
-under site p = record site { scope = p }
-
--- ---- The names that stand as TermArgs in a term of a table, or as a term, outside the terms inside it, each with the
--- number of arguments that was read with it (ACPI 6.5, 20.2.5).
-
--- whether a part of this kind is a TermArg
-abbrev pub is_argument : PartKind → Bool
-is_argument part_kinds.Term = true
-is_argument _ = false
-
--- the kinds of the parts of an opcode
-abbrev pub kinds_in : ℕ → List PartKind
-kinds_in opcode = unwrap_or (option_map (λ r. r.parts) (row_of opcode)) []
-
 -- whether a group is that of declarations
 abbrev pub declares_by : Group → Bool
 declares_by groups.Declaration = true
@@ -90,105 +66,7 @@ abbrev pub in_declaration : Tree → Bool
 in_declaration (op o w ps r) = unwrap_or (option_map (λ r. declares_by r.group) (row_of o)) false
 in_declaration _ = false
 
--- A name that stands as a TermArg outside the methods, or as a term there: its table, the scope in which it stands,
--- with how many arguments it was read, and whether the term around it is a declaration.
-pub record Use : Type 0 where
-  pub table : ℕ
-  pub scope : List Seg
-  pub name : Name
-  pub args : ℕ
-  pub declaring : Bool
-
--- a name at a site, with so many arguments, in a declaration or not
-abbrev pub use_of : Where → Bool → Name → ℕ → Use
-use_of site declaring n args =
-    record { table = site.table; scope = site.scope; name = n; args = args; declaring = declaring }
-
--- The names in a tree, in the order of the text. It is said what a use of a name is, and whether the tree itself is a
--- TermArg or a term.
-abbrev mutual
-  pub uses_in : (Name → ℕ → Use) → Bool → Tree → List Use
-  uses_in ask argument nothing = []
-  uses_in ask argument (named n ts) = cond argument (ask n (tree_count ts) ∷ []) [] ++ all_uses ask true ts
-  uses_in ask argument (op o w ps r) = parts_uses ask (kinds_in o) ps ++ tail_uses ask r
-
-  pub all_uses : (Name → ℕ → Use) → Bool → Trees → List Use
-  all_uses ask argument no_trees = []
-  all_uses ask argument (tree_more t ts) = uses_in ask argument t ++ all_uses ask argument ts
-
-  pub parts_uses : (Name → ℕ → Use) → List PartKind → Parts → List Use
-  parts_uses ask (k ∷ ks) (part_more p ps) = part_uses ask (is_argument k) p ++ parts_uses ask ks ps
-  parts_uses ask _ _ = []
-
-  pub part_uses : (Name → ℕ → Use) → Bool → Part → List Use
-  part_uses ask argument (child t) = uses_in ask argument t
-  part_uses ask argument _ = []
-
-  pub tail_uses : (Name → ℕ → Use) → Tail → List Use
-  tail_uses ask (elements ts) = all_uses ask false ts
-  tail_uses ask (fields us) = fields_uses ask us
-  tail_uses ask _ = []
-
-  pub fields_uses : (Name → ℕ → Use) → Fields → List Use
-  fields_uses ask no_fields = []
-  fields_uses ask (field_more u us) = field_uses ask u ++ fields_uses ask us
-
-  pub field_uses : (Name → ℕ → Use) → Field → List Use
-  field_uses ask (connection (buffer t)) = uses_in ask false t
-  field_uses ask _ = []
-
--- the names of a term at a site
-abbrev pub term_uses : Where → Tree → List Use
-term_uses site t = uses_in (use_of site (in_declaration t)) true t
-
--- ---- What is listed: one list of entries, in load order and in the order of the text, behind the counts that the user
--- gives.
-
--- The entries, and the names outside methods of which the number of arguments is compared once all entries are there.
-pub record Listed : Type 0 where
-  pub entries : List Entry
-  pub uses : List Use
-
--- before any table: what the user gives
-abbrev pub first_listed : Givens → Listed
-first_listed gs = record { entries = given_entries gs; uses = [] }
-
--- one entry more
-abbrev pub plus : Listed → Entry → Listed
-plus l e = record { entries = l.entries ++ e ∷ []; uses = l.uses }
-
--- the names of a term more
-abbrev pub with_uses : Where → Listed → Tree → Listed
-with_uses site l t = record { entries = l.entries; uses = l.uses ++ term_uses site t }
-
--- the methods, in order
-abbrev pub method_of : Entry → Option Method
-method_of (declares p k (Some b) sure) =
-    Some (record { path = p; table = b.table; start = b.start; len = b.len; flags = b.flags })
-method_of _ = None
-
-abbrev pub methods_of : List Entry → List Method
-methods_of es = filter_map method_of es
-
--- the most methods that a set of tables may have
-abbrev pub most_methods : ℕ
-most_methods = 1048576
-
--- ---- Of a term: its names, its last byte, and the span of a method's body.
-
--- the first part, if it is a name: of an Alias, its source
-abbrev pub first_label : Parts → Option Name
-first_label (part_more (label n) ps) = Some n
-first_label _ = None
-
--- the last byte: a method's flags, an External's number of arguments
-abbrev pub byte_of : Parts → ℕ
-byte_of ps = unwrap_or (last_byte None ps) 0
-
--- where a method's body begins, and its length
-abbrev pub body_span : Tail → ℕ × ℕ
-body_span (body start len) = (start, len)
-body_span _ = (0, 0)
+-- ---- The entries of a term.
 
 -- the path above a path: its segments but the last
 abbrev pub parent_of : List Seg → List Seg
@@ -214,142 +92,158 @@ method_entry site es flags span p = declares p (kinds.Method (flags % 8))
     (Some (record { table = site.table; start = span.0; len = span.1; flags = flags })) (sure_here site es p)
 
 -- what a name leads to at a site, among the entries so far; where the code outside methods may run, in every run
-abbrev pub lead_of : Where → List Entry → Option Name → Option (List Seg)
-lead_of site es n = option_and_then
-    (cond site.any_run (agreed_path (outlook_of es) site.scope) (found (namespace_of es) set.empty site.scope)) n
+abbrev pub leads : Where → List Entry → Name → Option (List Seg)
+leads site es =
+    cond site.any_run (agreed_path (outlook_of es) site.scope) (found (namespace_of es) set.empty site.scope)
 
 -- what an Alias of a path stands for: the path, or that path's own target if it is an Alias
 abbrev pub target_by : Option Kind → List Seg → List Seg
 target_by (Some (kinds.Alias is_open q)) p = q
 target_by _ p = p
 
-abbrev pub target_of : List Entry → List Seg → List Seg
-target_of es p = target_by (kind_at (namespace_of es) p) p
-
 -- the entry of an Alias of a source, which is declared in every run only where its source has a kind in every run
 abbrev pub alias_entry : Where → List Entry → List Seg → List Seg → Entry
-alias_entry site es source p = declares p (kinds.Alias (open_in (outlook_of es) source) (target_of es source)) None
+alias_entry site es source p = declares p
+    (kinds.Alias (open_in (outlook_of es) source) (target_by (kind_at (namespace_of es) source) source)) None
     (sure_with site es (parent_of p ∷ source ∷ []))
 
--- ---- What a term declares: what is listed behind it, or the fault at which the load stops.
+-- ---- What a term declares itself.
 
--- one step, and another over what it gave: the first fault is the fault of both
-infixl 10 ◌>>=◌
-abbrev pub ◌>>=◌ : {A B : Type 0} → Result A LoadFault → (A → Result B LoadFault) → Result B LoadFault
-(Ok x) >>= f = f x
-(Err e) >>= f = Err e
-
--- the path that a name has at a site, without a search, or the fault that its prefixes lead above the root
-unfoldable pub place_at : Where → Option Name → Result (List Seg) LoadFault
-place_at site n = ok_or (option_and_then (placed site.scope) n) (loads.Space site.table faults.AboveRoot)
-
--- the path that a name leads to at a site, as the entries stand there, or the fault that it leads nowhere
-unfoldable pub lead_at : Where → List Entry → Option Name → (List Seg → SpaceFault) → Result (List Seg) LoadFault
-lead_at site es n missing = do
-  p ← place_at site n
-  ok_or (lead_of site es n) (loads.Space site.table (missing p))
-
--- An entry more, which declares a path, or the fault that something declares it already. Where the code outside methods
--- may run, a path may be declared again.
-unfoldable pub entry_at : Where → Listed → List Seg → Entry → Result Listed LoadFault
-entry_at site l p x = if not site.any_run && is_some (declared_at l.entries p)
-    then Err (loads.Space site.table (faults.Duplicate p)) else Ok (plus l x)
-
--- an entry of a name that is new at a site
-unfoldable pub new_at : Where → Listed → Option Name → (List Seg → Entry) → Result Listed LoadFault
-new_at site l n entry = do
-  p ← place_at site n
-  entry_at site l p (entry p)
-
--- a method, with its flags and the span of its body (20.2.5.2): the limit is met before its name
-unfoldable pub method_at : Where → Listed → Option Name → ℕ → ℕ × ℕ → Result Listed LoadFault
-method_at site l n flags span = if nat_le most_methods (length (methods_of l.entries))
-    then Err loads.TooManyMethods else new_at site l n (method_entry site l.entries flags span)
-
--- an Alias (20.2.5.1): first where its source leads, then its own name
-unfoldable pub alias_at : Where → Listed → Option Name → Option Name → Result Listed LoadFault
-alias_at site l source n = do
-  q ← lead_at site l.entries source (λ p. faults.AliasMissing p)
-  new_at site l n (alias_entry site l.entries q)
-
--- an External, which counts for a path (20.2.5.2)
-unfoldable pub external_at : Where → Listed → Option Name → ℕ → Result Listed LoadFault
-external_at site l n count = do
-  p ← place_at site n
-  Ok (plus l (external p count))
+-- One entry more, of the path of a name. Something may declare it already only where the code outside methods may run.
+abbrev pub Adds : Where → List Entry → Name → (List Seg → Entry) → List Entry → Type 0
+Adds site es n entry fs = (p : List Seg) × (placed site.scope n ≡ Some p)
+    × (site.any_run ≡ false → declared_at es p ≡ None) × (fs ≡ es ++ entry p ∷ [])
 
 -- the named units of a field list (20.2.5.2), each under its segment in the scope
-unfoldable pub units_at : Where → Listed → List Name → Result Listed LoadFault
-units_at site l [] = Ok l
-units_at site l (n ∷ ns) = do
-  k ← new_at site l (Some n) (plain_entry site l.entries kinds.Field)
-  units_at site k ns
+abbrev pub AddsUnits : Where → List Entry → List Name → List Entry → Type 0
+AddsUnits site es [] fs = es ≡ fs
+AddsUnits site es (n ∷ ns) fs =
+    (ms : List Entry) × Adds site es n (plain_entry site es kinds.Field) ms × AddsUnits site ms ns fs
 
--- What a term does by its role, at a site, after l. `inside` is what the terms inside it declare, after what is listed
--- then and at their site.
-unfoldable pub declare_as : Role → Where → Listed → Parts → Tail → (Listed → Where → Result Listed LoadFault)
-    → Result Listed LoadFault
-declare_as (roles.Declares o) site l ps r inside = do
-  p ← place_at site (last_label None ps)
-  m ← entry_at site l p (plain_entry site l.entries (kind_of o) p)
-  inside m (under site p)
-declare_as roles.Method site l ps r inside = method_at site l (last_label None ps) (byte_of ps) (body_span r)
-declare_as roles.Scope site l ps r inside = do
-  p ← lead_at site l.entries (last_label None ps) (λ p. faults.ScopeMissing p)
-  inside l (under site p)
-declare_as roles.Alias site l ps r inside = alias_at site l (first_label ps) (last_label None ps)
-declare_as roles.External site l ps r inside = external_at site l (last_label None ps) (byte_of ps)
-declare_as roles.Fields site l ps r inside = units_at site l (field_names r)
-declare_as roles.Guard site l ps r inside = inside l site
-declare_as roles.Other site l ps r inside = Ok l
+-- The path that a Scope opens: the one to which its name leads. Where the code outside methods may run, its own where
+-- nothing at all is there.
+abbrev pub opened : Where → List Entry → Name → Option (List Seg)
+opened site es n = option_or (leads site es n)
+    (cond (site.any_run && not (is_some (found (namespace_of es) set.empty site.scope n))) (placed site.scope n) None)
 
-unfoldable mutual
-  -- a term at a site, after l: the names that stand in it as TermArgs, and then what it does by its role
-  pub declare : Where → Listed → Tree → Result Listed LoadFault
-  declare site l (op o w ps r) =
-      declare_as (role_of o) site (with_uses site l (op o w ps r)) ps r (λ l below. declare_inside below l r)
-  declare site l _ = Ok l
+-- Where the terms inside an object stand, and those inside a Scope. An interpreter passes over what is inside an object
+-- whose path is declared already, and inside a Scope of what is no scope.
+abbrev pub in_object : Where → List Entry → List Seg → Where
+in_object site es p = record site { scope = p; sure = sure_here site es p && not (is_some (declared_at es p)) }
 
-  -- the terms inside a term
-  pub declare_inside : Where → Listed → Tail → Result Listed LoadFault
-  declare_inside site l (terms ts) = declare_all site l ts
-  declare_inside site l _ = Ok l
+abbrev pub in_scope : Where → List Entry → List Seg → Where
+in_scope site es p = record site { scope = p; sure = site.sure && (not site.any_run || scope_in (outlook_of es) p) }
 
-  -- terms, in the order of the text
-  pub declare_all : Where → Listed → Trees → Result Listed LoadFault
-  declare_all site l no_trees = Ok l
-  declare_all site l (tree_more x xs) = do
-    k ← declare site l x
-    declare_all site k xs
+-- What a term does by its role at a site, from the entries in front of it to those behind it; and where the terms
+-- inside it stand. What is inside an If, an Else or a While may not run.
+abbrev pub Does : Role → Where → List Entry → Parts → Tail → List Entry → Where → Type 0
+Does (roles.Declares o) site es ps r fs below = (n : Name) × (last_label None ps ≡ Some n)
+    × Adds site es n (plain_entry site es (kind_of o)) fs × (placed site.scope n ≡ Some below.scope)
+    × (below ≡ in_object site es below.scope)
+Does roles.Method site es (part_more (label n) (part_more (byte flags) no_parts)) (body start len) fs below =
+    Adds site es n (method_entry site es flags (start, len)) fs
+Does roles.Scope site es (part_more (label n) no_parts) r fs below =
+    (opened site es n ≡ Some below.scope) × (es ≡ fs) × (below ≡ in_scope site es below.scope)
+Does roles.Alias site es (part_more (label source) (part_more (label n) no_parts)) r fs below =
+    (p : List Seg) × (leads site es source ≡ Some p) × Adds site es n (alias_entry site es p) fs
+Does roles.External site es (part_more (label n) (part_more (byte k) (part_more (byte count) no_parts))) r fs below =
+    (p : List Seg) × (placed site.scope n ≡ Some p) × (fs ≡ es ++ external p count ∷ [])
+Does roles.Fields site es ps r fs below = AddsUnits site es (field_names r) fs
+Does roles.Guard site es ps r fs below = (es ≡ fs) × (below ≡ record site { sure = not site.any_run && site.sure })
+Does roles.Other site es ps r fs below = (es ≡ fs) × (below ≡ record site { sure = not site.any_run && site.sure })
+Does _ site es ps r fs below = ⊥
 
--- ---- The names outside methods, once all entries are there.
+-- a term, which does nothing without an opcode
+abbrev pub DoesTerm : Where → List Entry → Tree → List Entry → Where → Type 0
+DoesTerm site es (op o w ps r) fs below = Does (role_of o) site es ps r fs below
+DoesTerm site es t fs below = es ≡ fs
 
--- How many arguments a name takes that stands outside methods, once all entries are there. In a declaration a name that
--- nothing knows takes none.
-abbrev pub use_count : Bool → List Entry → Use → Option ℕ
-use_count unknown_zero es u =
-    agreed_arity (outlook_of es) (unknown_zero || u.declaring) u.scope set.empty u.name
+-- a tail without terms inside it
+abbrev pub emptied : Tail → Tail
+emptied (terms ts) = terms no_trees
+emptied r = r
 
--- the fault of a call: where the code outside methods may run by the first path that its name may mean, if there is one
-abbrev pub call_fault : Bool → Use → LoadFault
-call_fault false u = loads.ModuleCall u.table
-call_fault true u =
-    unwrap_or (option_map (λ p. loads.RunCall u.table p) (placed u.scope u.name)) (loads.ModuleCall u.table)
+-- ---- The methods among entries.
 
--- each takes as many as were read with it; or the fault of the first that doesn't
-unfoldable pub uses_at : Bool → Bool → List Entry → List Use → Result (Unit {0}) LoadFault
-uses_at any_run unknown_zero es [] = Ok tt
-uses_at any_run unknown_zero es (u ∷ us) = if option_eq nat_eq (use_count unknown_zero es u) (Some u.args)
-    then uses_at any_run unknown_zero es us else Err (call_fault any_run u)
+-- the methods, in order
+abbrev pub method_of : Entry → Option Method
+method_of (declares p k (Some b) sure) =
+    Some (record { path = p; table = b.table; start = b.start; len = b.len; flags = b.flags })
+method_of _ = None
 
--- ---- AML that can't be read.
+abbrev pub methods_of : List Entry → List Method
+methods_of es = filter_map method_of es
 
--- a fault of the AML of table t
-abbrev pub code_fault : ℕ → CodeFault → LoadFault
-code_fault t codes.NoMemory = loads.NoMemory
-code_fault t f = loads.Code t f
+-- ---- Terms, tables, and what they load to. In the end the last entries are there; and a name outside the methods of
+-- which nothing tells how many arguments it takes has none, or is refused.
 
--- the AML of table t can't be read, and the fault is true of the byte at its offset
-abbrev pub Unread : ℕ → List ℕ → LoadFault → Type 0
-Unread t code e = (f : CodeFault) × StandsAt no_arguments code f × ((ts : Trees) → ReadsModule code ts → ⊥)
-    × (e ≡ code_fault t f)
+module _ (unknown_zero : Bool) (last : List Entry) (code : List ℕ) where
+  -- The names in a term take as many arguments in the end as were read with them: it is lawful by these counts too. In
+  -- a declaration a name of which nothing tells it takes none.
+  abbrev pub Agrees : Position → Where → Tree → Type 0
+  Agrees p site t = IsLawful
+      (setting_of (agreed_arity (outlook_of last) (unknown_zero || in_declaration t) site.scope) None code)
+      most_levels p set.empty t
+
+  -- From the entries in front of them to those behind them: terms at a site, a term, and the terms inside one. Each
+  -- agrees, without the terms inside it.
+  abbrev mutual
+    pub TermsDeclare : Where → List Entry → Trees → List Entry → Type 0
+    TermsDeclare site es no_trees fs = es ≡ fs
+    TermsDeclare site es (tree_more t ts) fs =
+        (ms : List Entry) × TermDeclares site es t ms × TermsDeclare site ms ts fs
+
+    pub TermDeclares : Where → List Entry → Tree → List Entry → Type 0
+    TermDeclares site es (op o w ps r) fs = (ms : List Entry) × (below : Where)
+        × Agrees positions.ModuleTerm site (op o w ps (emptied r)) × Does (role_of o) site es ps r ms below
+        × InsideDeclares below ms r fs
+    TermDeclares site es t fs = es ≡ fs
+
+    pub InsideDeclares : Where → List Entry → Tail → List Entry → Type 0
+    InsideDeclares site es (terms ts) fs = TermsDeclare site es ts fs
+    InsideDeclares site es r fs = es ≡ fs
+
+  -- How many arguments names take in a term of a table whose code may run: as many as every run agrees on by the
+  -- entries in front of it, with what the user gives, and none where nothing tells it.
+  abbrev pub counts_at : Where → List Entry → Arities
+  counts_at site es locals n = Some (unwrap_or (agreed_arity (outlook_of es) false site.scope locals n) 0)
+
+  abbrev mutual
+    -- Such a table is read from the left: the terms from an offset on to the end of a span, with at most so many
+    -- levels, at a site, from entries to entries. For each a step stands there, with the counts in front of it.
+    pub TermsRead : ℕ → Position → ℕ → ℕ → Where → List Entry → Trees → List Entry → Type 0
+    TermsRead levels p at end site es no_trees fs = (at ≡ end) × (es ≡ fs)
+    TermsRead levels p at end site es (tree_more t ts) fs =
+        (head : Tree) × (behind : ℕ) × (inner : List Entry) × (below : Where) × (ms : List Entry)
+        × ReadsStep (counts_at site es) levels p code at end head behind
+        × Agrees p site head × DoesTerm site es head inner below × TermReads levels head below inner t ms
+        × TermsRead levels (next_position p head) behind end site ms ts fs
+
+    -- The term of a step: the step itself, or, where terms stand inside it, with these in place of their span.
+    pub TermReads : ℕ → Tree → Where → List Entry → Tree → List Entry → Type 0
+    TermReads levels head below inner (op o w ps (terms ts)) fs =
+        (start : ℕ) × (len : ℕ) × (head ≡ op o w ps (body start len)) × (is_block head ≡ true)
+        × TermsRead (levels - 1) positions.RunTerm start (start + len) below inner ts fs
+    TermReads levels head below inner t fs = (head ≡ t) × (is_block head ≡ false) × (inner ≡ fs)
+
+-- The AML of table t reads as these terms, from the entries in front of it to those behind it: as a whole, and then its
+-- terms declare; or, where the code outside methods may run, from the left.
+abbrev pub TableLoads : Bool → Bool → List Entry → ℕ → List Entry → List ℕ → Trees → List Entry → Type 0
+TableLoads false z last t es code ts fs = ReadsModule code ts
+    × TermsDeclare z last code (record { table = t; scope = []; any_run = false; sure = true }) es ts fs
+TableLoads true z last t es code ts fs = TermsRead z last code most_levels positions.RunTerm 0 (length code)
+    (record { table = t; scope = []; any_run = true; sure = true }) es ts fs
+
+-- the tables from number t on, each from the root, one after the other
+abbrev pub TablesLoad : Bool → Bool → List Entry → ℕ → List Entry → List (List ℕ) → List Trees → List Entry → Type 0
+TablesLoad any_run z last t es [] [] fs = es ≡ fs
+TablesLoad any_run z last t es (c ∷ cs) (ts ∷ rest) fs =
+    (ms : List Entry) × TableLoads any_run z last t es c ts ms × TablesLoad any_run z last (suc t) ms cs rest fs
+TablesLoad any_run z last t es _ _ fs = ⊥
+
+-- The tables' AML reads as these trees, and these load to these entries, behind the counts that the user gives to
+-- paths. A set has at most so many methods.
+pub record LoadsTo (any_run unknown_zero : Bool) (gs : List (List Seg × ℕ)) (tables : List (List ℕ))
+    (trees : List Trees) (es : List Entry) : Type 0 where
+  pub read : TablesLoad any_run unknown_zero es 0 (map (λ g. given g.0 g.1) gs) tables trees es
+  pub few : length (methods_of es) ≤ 1048576

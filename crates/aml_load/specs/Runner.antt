@@ -25,7 +25,8 @@ use Rattle.aml_load.specs.declared.runner.Term.{Term}
 use Rattle.aml_load.specs.declared.walking.Progress.{Progress}
 use Rattle.aml_code.specs.declared.rows.Role.{Role}
 use Rattle.aml_code.specs.declared.rows.Role.TheVariants as roles
-use Rattle.aml_load.specs.Loading.{Where, Listed}
+use Rattle.aml_load.specs.Declaring.{Listed}
+use Rattle.aml_load.specs.Loading.{Where}
 use Rattle.aml_load.specs.Running.{Front, table_front, counts_in, entered_at, run_names}
 use Rattle.std.specs.Prelude.{[]}
 use Rattle.aml_load.specs.Tables.{Fails}

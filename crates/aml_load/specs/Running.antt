@@ -1,7 +1,5 @@
--- What the terms of tables declare where the code outside methods may run (ACPI 6.5, 5.3, 20.2.1 and 20.2.5). Each
--- table is read from the left: a name outside methods has as many arguments as every run agrees on by what is declared
--- in front of it. What is declared in code that may not run, below a path that may not be there, or of which another
--- declaration may be there first, is no sure declaration.
+-- A stepping stone: what the terms of tables declare where the code outside methods may run, and the fault at which a
+-- load stops, as `Loading` says it without faults (ACPI 6.5, 5.3, 20.2.1 and 20.2.5). Each table is read from the left.
 use Rattle.std.specs.Prelude.{ℕ, suc, Bool, true, false, not, ◌&&◌, List, [], ◌∷◌, Option}
 use Rattle.std.specs.Prelude.{Some, None, Result, Ok, Err, is_some}
 use Rattle.std.specs.Option.{unwrap_or, option_and_then}
@@ -20,8 +18,8 @@ use Rattle.aml_namespace.specs.Namespace.{Entry, declared_at, namespace_of, foun
 use Rattle.aml_namespace.specs.Runs.{scope_in, outlook_of, agreed_arity}
 use Rattle.aml_load.specs.declared.faults.LoadFault.{LoadFault}
 use Rattle.aml_load.specs.declared.faults.LoadFault.TheVariants as loads
-use Rattle.aml_load.specs.Loading.{◌>>=◌, role_of, kind_of, Where, Listed, with_uses, lead_of, place_at}
-use Rattle.aml_load.specs.Loading.{sure_here, plain_entry, entry_at, declare_as, code_fault}
+use Rattle.aml_load.specs.Declaring.{◌>>=◌, Listed, with_uses, lead_of, place_at, entry_at, declare_as, code_fault}
+use Rattle.aml_load.specs.Loading.{role_of, kind_of, Where, sure_here, plain_entry}
 
 -- What stands in front of a term: what is listed so far, and where the term stands.
 pub record Front : Type 0 where

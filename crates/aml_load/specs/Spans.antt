@@ -4,7 +4,8 @@ use Rattle.aml_code.specs.Tree.{Tree, nothing, named, op, Trees, no_trees, tree_
 use Rattle.aml_code.specs.Tree.{part_more, Tail, terms, elements, fields, body, Field, connection, Fields, no_fields}
 use Rattle.aml_code.specs.Tree.{field_more, Link, target, buffer}
 use Rattle.aml_set.specs.declared.methods.Method.{Method}
-use Rattle.aml_load.specs.Loading.{Listed, methods_of}
+use Rattle.aml_namespace.specs.Namespace.{Entry}
+use Rattle.aml_load.specs.Loading.{methods_of}
 
 -- a method's body: its table, by the place in load order, and where it stands in the AML of that table
 pub record Span : Type 0 where
@@ -61,5 +62,5 @@ tables_spans t (xs ∷ rest) = all_spans t xs ++ tables_spans (suc t) rest
 
 -- The methods of the entries are those whose bodies stand in the tables' trees, each once, in load order and in the
 -- order of the text.
-abbrev pub InTextOrder : List Trees → Listed → Type 0
-InTextOrder trees m = map method_span (methods_of m.entries) ≡ tables_spans 0 trees
+abbrev pub InTextOrder : List Trees → List Entry → Type 0
+InTextOrder trees es = map method_span (methods_of es) ≡ tables_spans 0 trees

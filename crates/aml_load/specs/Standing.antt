@@ -10,8 +10,9 @@ use Rattle.aml_code.specs.Tree.{Tree, op, Trees, no_trees, tree_more, Parts, Tai
 use Rattle.aml_space.specs.declared.faults.SpaceFault.TheVariants as faults
 use Rattle.aml_namespace.specs.Namespace.{Givens}
 use Rattle.aml_load.specs.declared.faults.LoadFault.{LoadFault}
-use Rattle.aml_load.specs.Loading.{Where, strict, under, Listed, first_listed, with_uses, role_of, kind_of, place_at}
-use Rattle.aml_load.specs.Loading.{plain_entry, lead_at, entry_at, declare, declare_all}
+use Rattle.aml_load.specs.Declaring.{strict, under, Listed, first_listed, with_uses, place_at, lead_at, entry_at}
+use Rattle.aml_load.specs.Declaring.{declare, declare_all}
+use Rattle.aml_load.specs.Loading.{Where, role_of, kind_of, plain_entry}
 use Rattle.aml_load.specs.Running.{Front, table_front, entered_at, behind_tree, behind_trees}
 
 -- a term, with its table, by the place in load order, its scope, and whether its site is sure

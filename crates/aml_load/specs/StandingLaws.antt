@@ -1,12 +1,13 @@
 -- A law of where terms stand: by themselves, each at its place, they declare what their tables load to.
 use Rattle.std.specs.Prelude.{◌≡◌, ℕ, Bool, true, false, List, [], ◌∷◌, Result, Ok}
 use Rattle.aml_code.specs.Tree.{Tree, op, Trees}
-use Rattle.aml_namespace.specs.Namespace.{Givens}
+use Rattle.aml_namespace.specs.Namespace.{Entry, Givens}
 use Rattle.aml_load.specs.declared.faults.LoadFault.{LoadFault}
-use Rattle.aml_load.specs.Loading.{◌>>=◌, Where, strict, Listed, first_listed, with_uses, role_of, declare_as}
+use Rattle.aml_load.specs.Declaring.{◌>>=◌, strict, Listed, Use, first_listed, with_uses, declare_as}
+use Rattle.aml_load.specs.Loading.{Where, role_of}
 use Rattle.aml_load.specs.Running.{Front, entered_at}
 use Rattle.aml_load.specs.Standing.{Standing, set_stands}
-use Rattle.aml_load.specs.Tables.{LoadsTo}
+use Rattle.aml_load.specs.Loading.{LoadsTo}
 
 -- what a term declares at a site, after l, without the terms inside it
 unfoldable pub alone_at : Where → Listed → Tree → Result Listed LoadFault
@@ -34,6 +35,6 @@ each_alone any_run l (s ∷ ss) = do
 
 -- the terms of a set declare so what its tables load to
 abbrev pub StandAsDeclared : Bool → Bool → Givens → List (List ℕ) → Type 0
-StandAsDeclared any_run unknown_zero gs tables = (trees : List Trees) (m : Listed) →
-    LoadsTo any_run unknown_zero gs tables trees m →
-    each_alone any_run (first_listed gs) (set_stands any_run gs trees) ≡ Ok m
+StandAsDeclared any_run unknown_zero gs tables = (trees : List Trees) (es : List Entry) →
+    LoadsTo any_run unknown_zero gs tables trees es → (us : List Use) ×
+    (each_alone any_run (first_listed gs) (set_stands any_run gs trees) ≡ Ok (record { entries = es; uses = us }))

@@ -7,7 +7,7 @@ use Rattle.aml_load.specs.declared.runner.RunSite.{RunSite}
 use Rattle.aml_load.specs.declared.standing.StandingTerm.{StandingTerm}
 use Rattle.aml_load.specs.declared.walking.Progress.{Progress}
 use Rattle.aml_namespace.specs.Namespace.{Givens}
-use Rattle.aml_load.specs.Loading.{◌>>=◌, strict, Listed, first_listed, declare_all}
+use Rattle.aml_load.specs.Declaring.{◌>>=◌, strict, Listed, first_listed, declare_all}
 use Rattle.aml_load.specs.Runner.{front_of}
 use Rattle.aml_load.specs.Running.{Front, behind_inside, behind_tables}
 use Rattle.aml_load.specs.Standing.{Standing, run_inside_stand}

@@ -20,14 +20,14 @@ use Rattle.aml_set.specs.declared.loaded.Loaded.{Loaded}
 use Rattle.aml_set.specs.declared.tables.TableSet.{TableSet}
 use Rattle.aml_load.specs.declared.faults.LoadFault.{LoadFault}
 use Rattle.aml_load.specs.declared.faults.LoadFault.TheVariants as loads
-use Rattle.aml_load.specs.Loading.{◌>>=◌, strict, Listed, first_listed, declare_all, use_count, uses_at, code_fault}
-use Rattle.aml_load.specs.Loading.{Unread}
-use Rattle.aml_load.specs.Loading.{methods_of, most_methods}
+use Rattle.aml_load.specs.Declaring.{◌>>=◌, strict, Listed, Use, first_listed, declare_all, use_count, uses_at}
+use Rattle.aml_load.specs.Declaring.{code_fault, Unread, most_methods}
+use Rattle.aml_load.specs.Loading.{methods_of, LoadsTo}
 use Rattle.aml_load.specs.Running.{Front, table_front, run_names}
 use Rattle.aml_load.specs.Spans.{InTextOrder}
 use Rattle.aml_load.specs.Views.{HoldsLoad, HoldsTables}
 
--- ---- What tables load to.
+-- ---- What tables load to, step by step: a stepping stone of the proofs, as `Loads` says it.
 
 -- The AML of table t reads as these terms, with these lists in front of them and behind them: by themselves, and then
 -- they declare; or, where the code outside methods may run, each by what stands in front of it.
@@ -42,9 +42,9 @@ ReadTables any_run t l (c ∷ cs) (ts ∷ rest) m =
     (k : Listed) × ReadsOne any_run t l c ts k × ReadTables any_run (suc t) k cs rest m
 ReadTables any_run t l _ _ m = ⊥
 
--- The tables' AML reads as these trees, and these load to these entries, where the user gives these counts; and each
--- name outside methods takes as many arguments once all entries are there as were read with it.
-pub record LoadsTo (any_run unknown_zero : Bool) (gs : Givens) (tables : List (List ℕ)) (trees : List Trees)
+-- The tables' AML reads as these trees, which list so, where the user gives these counts; and each name outside methods
+-- takes as many arguments once all entries are there as were read with it.
+pub record ListsTo (any_run unknown_zero : Bool) (gs : Givens) (tables : List (List ℕ)) (trees : List Trees)
     (m : Listed) : Type 0 where
   pub read : ReadTables any_run 0 (first_listed gs) tables trees m
   pub agreed : All (λ u. use_count unknown_zero m.entries u ≡ Some u.args) m.uses
@@ -107,10 +107,10 @@ abbrev pub Fails : {Y : Type 0} → LoadFault → Result Y LoadFault → Type 0
 Fails e walk = (e ≡ loads.NoMemory) ⊎ (walk ≡ Err e)
 
 -- What a load answered, of which it is said what it holds, is what loading forward gives, unless memory was refused.
-abbrev pub GivesBy : {X : Type 0} → (X → List (List ℕ) → List Trees → Listed → Type 0) → Bool → Bool → Givens
+abbrev pub GivesBy : {X : Type 0} → (X → List (List ℕ) → List Trees → List Entry → Type 0) → Bool → Bool → Givens
     → Result X LoadFault → List (List ℕ) → Type 0
-GivesBy HoldsIt any_run unknown_zero gs (Ok x) codes = (trees : List Trees) × (m : Listed) × HoldsIt x codes trees m
-    × (load_at any_run unknown_zero gs codes ≡ Ok (trees, m))
+GivesBy HoldsIt any_run unknown_zero gs (Ok x) codes = (trees : List Trees) × (m : Listed)
+    × HoldsIt x codes trees m.entries × (load_at any_run unknown_zero gs codes ≡ Ok (trees, m))
 GivesBy HoldsIt any_run unknown_zero gs (Err e) codes = Fails e (load_at any_run unknown_zero gs codes)
 
 abbrev pub GivesLoad : Bool → Bool → Givens → Result Loaded LoadFault → List (List ℕ) → Type 0
@@ -124,28 +124,29 @@ GivesSet any_run unknown_zero gs answer codes = GivesBy HoldsTables any_run unkn
 
 -- tables load to one list of entries
 abbrev pub LoadsOneWay : Bool → Bool → Givens → List (List ℕ) → Type 0
-LoadsOneWay any z gs tables = (ts us : List Trees) (m n : Listed) →
-    LoadsTo any z gs tables ts m → LoadsTo any z gs tables us n → (ts ≡ us) × (m ≡ n)
+LoadsOneWay any z gs tables = (ts us : List Trees) (es fs : List Entry) →
+    LoadsTo any z gs tables ts es → LoadsTo any z gs tables us fs → (ts ≡ us) × (es ≡ fs)
 
 -- loading tables of bytes forward gives what they load to, or a fault for which their load stops
 abbrev pub LoadsForward : Bool → Bool → Givens → List (List ℕ) → Type 0
 LoadsForward any z gs tables = AreCodes tables →
-    MatchResult (load_at any z gs tables) (λ x. LoadsTo any z gs tables x.0 x.1) (λ e. StopsFor any z gs tables e)
+    MatchResult (load_at any z gs tables) (λ x. LoadsTo any z gs tables x.0 x.1.entries)
+    (λ e. StopsFor any z gs tables e)
 
 -- it gives what they load to
 abbrev pub LoadsAgain : Bool → Bool → Givens → List (List ℕ) → Type 0
-LoadsAgain any z gs tables = (trees : List Trees) (m : Listed) →
-    LoadsTo any z gs tables trees m → load_at any z gs tables ≡ Ok (trees, m)
+LoadsAgain any z gs tables = (trees : List Trees) (es : List Entry) → LoadsTo any z gs tables trees es →
+    (us : List Use) × (load_at any z gs tables ≡ Ok (trees, record { entries = es; uses = us }))
 
 -- the trees are spelled by the tables' AML, and each method's body is the span where it stands
 abbrev pub AreSpelled : Bool → Bool → Givens → List (List ℕ) → Type 0
-AreSpelled any z gs tables = (trees : List Trees) (m : Listed) → LoadsTo any z gs tables trees m →
+AreSpelled any z gs tables = (trees : List Trees) (es : List Entry) → LoadsTo any z gs tables trees es →
     AllZip (λ code ts. (encodings code ts ≡ code) × BodiesStand code 0 ts) tables trees
 
 -- the methods stand in load order and in the order of the text, each once, and there aren't too many
 abbrev pub LoadsInTextOrder : Bool → Bool → Givens → List (List ℕ) → Type 0
-LoadsInTextOrder any z gs tables = (trees : List Trees) (m : Listed) → LoadsTo any z gs tables trees m →
-    InTextOrder trees m × (length (methods_of m.entries) ≤ most_methods)
+LoadsInTextOrder any z gs tables = (trees : List Trees) (es : List Entry) → LoadsTo any z gs tables trees es →
+    InTextOrder trees es × (length (methods_of es) ≤ most_methods)
 
 -- Where the code outside methods may not run, tables mean what they mean without what runs may leave: each path is
 -- declared at most once, and surely, and each count is that of the one namespace.
@@ -155,4 +156,4 @@ pub record IsStrict (es : List Entry) : Type 0 where
   pub counts : StaysAsItIs es
 
 abbrev pub LoadsStrictly : Bool → Givens → List (List ℕ) → Type 0
-LoadsStrictly z gs tables = (trees : List Trees) (m : Listed) → LoadsTo false z gs tables trees m → IsStrict m.entries
+LoadsStrictly z gs tables = (trees : List Trees) (es : List Entry) → LoadsTo false z gs tables trees es → IsStrict es

@@ -1,13 +1,13 @@
 -- What a loaded set is the load of, and what the bodies of its methods read as.
-use Rattle.std.specs.Prelude.{◌≡◌, ℕ, List, Option, Some, None, ◌≢◌, Bool, ◌⊎◌}
+use Rattle.std.specs.Prelude.{◌≡◌, ℕ, List, [], slice_index_or, Option, Some, None, ◌≢◌, Bool, ◌⊎◌}
 use Rattle.std.specs.Prelude.{Result, Ok, Err}
-use Rattle.aml_code.specs.Tree.{Trees}
+use Rattle.aml_code.specs.Tree.{Trees, slice_of}
 use Rattle.aml_namespace.specs.Known.{Known, StandsFor}
 use Rattle.aml_set.specs.declared.loaded.Loaded.{Loaded}
 use Rattle.aml_set.specs.declared.methods.Method.{Method}
 use Rattle.aml_set.specs.declared.tables.TableSet.{TableSet}
 use Rattle.aml_set.specs.Views.{codes_view, trees_view, span_of, table_codes, table_terms}
-use Rattle.aml_load.specs.Loading.{Listed, methods_of}
+use Rattle.aml_load.specs.Loading.{methods_of}
 use Rattle.aml_names.specs.declared.faults.CodeFault.{CodeFault}
 use Rattle.aml_names.specs.declared.faults.CodeFault.TheVariants as codes
 use Rattle.aml_names.specs.NameReading.{Gives}
@@ -19,25 +19,25 @@ use Rattle.aml_namespace.specs.Namespace.{Entry}
 use Rattle.aml_namespace.specs.Runs.{outlook_of, agreed_arity}
 
 -- The namespace and the methods of a loaded set are those of these entries.
-pub record HoldsLoad (x : Loaded) (codes : List (List ℕ)) (ts : List Trees) (m : Listed) : Type 0 where
+pub record HoldsLoad (x : Loaded) (codes : List (List ℕ)) (ts : List Trees) (es : List Entry) : Type 0 where
   pub tables : codes_view x.tables.items ≡ codes
   pub trees : trees_view x.trees.items ≡ ts
-  pub space : StandsFor x.space m.entries
-  pub methods : x.methods.items ≡ methods_of m.entries
+  pub space : StandsFor x.space es
+  pub methods : x.methods.items ≡ methods_of es
 
 -- Those of a set of tables in one list are.
-pub record HoldsTables (x : TableSet) (codes : List (List ℕ)) (ts : List Trees) (m : Listed) : Type 0 where
+pub record HoldsTables (x : TableSet) (codes : List (List ℕ)) (ts : List Trees) (es : List Entry) : Type 0 where
   pub tables : table_codes x.tables.items ≡ codes
   pub trees : table_terms x.tables.items ≡ ts
-  pub space : StandsFor x.space m.entries
-  pub methods : x.methods.items ≡ methods_of m.entries
+  pub space : StandsFor x.space es
+  pub methods : x.methods.items ≡ methods_of es
 
 -- ---- The bodies of methods, each read in the namespace of all entries (ACPI 6.5, 5.3 and 20.2.5).
 
--- the body of a method reads as these terms
+-- the body of a method, a span of its table, reads as these terms
 abbrev pub IsBody : Bool → List Entry → List (List ℕ) → Method → Trees → Type 0
 IsBody unknown_zero es tables m ts = ReadsBody (agreed_arity (outlook_of es) unknown_zero m.path) m.path
-    (span_of tables m) ts
+    (slice_of (slice_index_or tables m.table []) m.start m.len) ts
 
 -- the body of a method reads as no terms, for this reason, which is true of the byte at its offset in the body
 pub record IsUnread (unknown_zero : Bool) (es : List Entry) (tables : List (List ℕ)) (m : Method)

@@ -12,7 +12,8 @@ use Rattle.aml_load.specs.declared.faults.LoadFault.{LoadFault}
 use Rattle.aml_load.specs.declared.faults.LoadFault.TheVariants as loads
 use Rattle.aml_load.specs.declared.uses.Site.{Site}
 use Rattle.aml_load.specs.declared.walking.Progress.{Progress}
-use Rattle.aml_load.specs.Loading.{Listed, methods_of, Where, parent_of, sure_with}
+use Rattle.aml_load.specs.Declaring.{Listed}
+use Rattle.aml_load.specs.Loading.{methods_of, Where, parent_of, sure_with}
 use Rattle.aml_load.specs.Groups.{AreIn, uses_of}
 use Rattle.aml_load.specs.Tables.{Fails}
 use Rattle.aml_code.specs.Tree.{Trees}

@@ -1,7 +1,7 @@
 //! Why tables can't be loaded.
 ghost use Rattle.std.specs.Prelude.{◌≡◌};
 ghost use Rattle.aml_load.specs.declared.faults.LoadFault.TheVariants.{NoMemory as want};
-ghost use Rattle.aml_load.specs.Loading.{code_fault};
+ghost use Rattle.aml_load.specs.Declaring.{code_fault};
 
 use aml_code::{CodeFault, Path};
 use aml_space::SpaceFault;

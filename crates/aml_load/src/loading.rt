@@ -6,10 +6,11 @@ ghost use Rattle.std.specs.Prelude.{nat_eq, ◌≤◌, ◌||◌};
 ghost use Rattle.std.specs.Option.{option_eq};
 ghost use Rattle.aml_code.specs.Tree.{Trees};
 ghost use Rattle.aml_code.specs.View.{nodes_view};
-ghost use Rattle.aml_namespace.specs.Namespace.{given_entries};
+ghost use Rattle.aml_namespace.specs.Namespace.{Entry, given_entries};
 ghost use Rattle.aml_namespace.specs.Known.{StandsFor};
-ghost use Rattle.aml_load.specs.Loading.{Listed, first_listed, most_methods, use_count, call_fault, uses_at};
-ghost use Rattle.aml_load.specs.Tables.{LoadsTo, StopsFor, table_at, tables_at, GivesLoad, GivesSet};
+ghost use Rattle.aml_load.specs.Declaring.{Listed, first_listed, most_methods, use_count, call_fault, uses_at};
+ghost use Rattle.aml_load.specs.Loading.{LoadsTo};
+ghost use Rattle.aml_load.specs.Tables.{StopsFor, table_at, tables_at, GivesLoad, GivesSet};
 ghost use Rattle.aml_load.specs.Views.{HoldsLoad, HoldsTables};
 ghost use Rattle.aml_load.specs.Walking.{Holds, Gives, TableWalked, TablesRead};
 ghost use Rattle.aml_set.specs.Code.{AreCodes, AreShort};
@@ -143,7 +144,7 @@ fn call_fault(
 }
 
 /// Looks at each name of a group.
-#[tactic(auto, unfolding(crate::specs::Loading::uses_at))]
+#[tactic(auto, unfolding(crate::specs::Declaring::uses_at))]
 fn check_group(
     alloc: Global,
     space: &Space,
@@ -167,7 +168,7 @@ fn check_group(
 
 /// Looks at each name that stands outside the methods. `ModuleCall` or `RunCall` at the first that takes another number
 /// of arguments than it was read with.
-#[tactic(auto, unfolding(crate::specs::Loading::uses_at))]
+#[tactic(auto, unfolding(crate::specs::Declaring::uses_at))]
 fn check_uses(
     alloc: Global,
     space: &Space,
@@ -249,18 +250,18 @@ pub fn load_tables<'a>(
     // The tables are the same ones.
     ensures dumps { IfOk result (λ x. table_dumps x.tables.items ≡ table_dumps tables.entry.items) }
     // Their AML reads as their terms, and these load to entries whose namespace and methods are the answer's.
-    ensures sound { IfOk result (λ x. (trees : List Trees) × (m : Listed) ×
-        LoadsTo any_run unknown_zero givens.now (table_codes tables.entry.items) trees m ×
-        HoldsTables x (table_codes tables.entry.items) trees m) }
+    ensures sound { IfOk result (λ x. (trees : List Trees) × (es : List Entry) ×
+        LoadsTo any_run unknown_zero givens.now (table_codes tables.entry.items) trees es ×
+        HoldsTables x (table_codes tables.entry.items) trees es) }
     // To nothing else.
-    ensures one { IfOk result (λ x. (trees : List Trees) (m : Listed) →
-        LoadsTo any_run unknown_zero givens.now (table_codes tables.entry.items) trees m →
-        HoldsTables x (table_codes tables.entry.items) trees m) }
+    ensures one { IfOk result (λ x. (trees : List Trees) (es : List Entry) →
+        LoadsTo any_run unknown_zero givens.now (table_codes tables.entry.items) trees es →
+        HoldsTables x (table_codes tables.entry.items) trees es) }
     // There are at most so many methods.
     ensures few { IfOk result (λ x. length x.methods.items ≤ most_methods) }
     // A refusal for another cause than memory comes only where there are no trees and entries that load.
-    ensures complete { IfErr result (λ e. (e ≡ LoadFault.NoMemory) ⊎ ((trees : List Trees) (m : Listed) →
-        LoadsTo any_run unknown_zero givens.now (table_codes tables.entry.items) trees m → ⊥)) }
+    ensures complete { IfErr result (λ e. (e ≡ LoadFault.NoMemory) ⊎ ((trees : List Trees) (es : List Entry) →
+        LoadsTo any_run unknown_zero givens.now (table_codes tables.entry.items) trees es → ⊥)) }
     // A fault is true of its table and of the entries where it stands.
     ensures true_fault { IfErr result (λ e. (e ≡ LoadFault.NoMemory) ⊎
         StopsFor any_run unknown_zero givens.now (table_codes tables.entry.items) e) }
@@ -317,19 +318,19 @@ pub fn load<'a>(
     requires { AreShort (codes_view tables.now) }
 
     // The tables' AML reads as the trees, and these load to entries whose namespace and methods are the answer's.
-    ensures sound { IfOk result (λ x. (trees : List Trees) × (m : Listed) ×
-        LoadsTo false false givens.now (codes_view tables.now) trees m ×
-        HoldsLoad x (codes_view tables.now) trees m) }
+    ensures sound { IfOk result (λ x. (trees : List Trees) × (es : List Entry) ×
+        LoadsTo false false givens.now (codes_view tables.now) trees es ×
+        HoldsLoad x (codes_view tables.now) trees es) }
     // To nothing else.
-    ensures one { IfOk result (λ x. (trees : List Trees) (m : Listed) →
-        LoadsTo false false givens.now (codes_view tables.now) trees m →
-        HoldsLoad x (codes_view tables.now) trees m) }
+    ensures one { IfOk result (λ x. (trees : List Trees) (es : List Entry) →
+        LoadsTo false false givens.now (codes_view tables.now) trees es →
+        HoldsLoad x (codes_view tables.now) trees es) }
     // No table is longer than a table may be, and there are at most so many methods.
     ensures short { IfOk result (λ x. AreShort (codes_view x.tables.items)) }
     ensures few { IfOk result (λ x. length x.methods.items ≤ most_methods) }
     // A refusal for another cause than memory comes only where there are no trees and entries that load.
-    ensures complete { IfErr result (λ e. (e ≡ LoadFault.NoMemory) ⊎ ((trees : List Trees) (m : Listed) →
-        LoadsTo false false givens.now (codes_view tables.now) trees m → ⊥)) }
+    ensures complete { IfErr result (λ e. (e ≡ LoadFault.NoMemory) ⊎ ((trees : List Trees) (es : List Entry) →
+        LoadsTo false false givens.now (codes_view tables.now) trees es → ⊥)) }
     // A fault is true of its table and of the entries where it stands.
     ensures true_fault { IfErr result (λ e. (e ≡ LoadFault.NoMemory) ⊎
         StopsFor false false givens.now (codes_view tables.now) e) }
@@ -353,19 +354,19 @@ pub fn load_any_run<'a>(
     requires { AreShort (codes_view tables.now) }
 
     // The tables' AML reads as the trees, and these load to entries whose namespace and methods are the answer's.
-    ensures sound { IfOk result (λ x. (trees : List Trees) × (m : Listed) ×
-        LoadsTo true unknown_zero givens.now (codes_view tables.now) trees m ×
-        HoldsLoad x (codes_view tables.now) trees m) }
+    ensures sound { IfOk result (λ x. (trees : List Trees) × (es : List Entry) ×
+        LoadsTo true unknown_zero givens.now (codes_view tables.now) trees es ×
+        HoldsLoad x (codes_view tables.now) trees es) }
     // To nothing else.
-    ensures one { IfOk result (λ x. (trees : List Trees) (m : Listed) →
-        LoadsTo true unknown_zero givens.now (codes_view tables.now) trees m →
-        HoldsLoad x (codes_view tables.now) trees m) }
+    ensures one { IfOk result (λ x. (trees : List Trees) (es : List Entry) →
+        LoadsTo true unknown_zero givens.now (codes_view tables.now) trees es →
+        HoldsLoad x (codes_view tables.now) trees es) }
     // No table is longer than a table may be, and there are at most so many methods.
     ensures short { IfOk result (λ x. AreShort (codes_view x.tables.items)) }
     ensures few { IfOk result (λ x. length x.methods.items ≤ most_methods) }
     // A refusal for another cause than memory comes only where there are no trees and entries that load.
-    ensures complete { IfErr result (λ e. (e ≡ LoadFault.NoMemory) ⊎ ((trees : List Trees) (m : Listed) →
-        LoadsTo true unknown_zero givens.now (codes_view tables.now) trees m → ⊥)) }
+    ensures complete { IfErr result (λ e. (e ≡ LoadFault.NoMemory) ⊎ ((trees : List Trees) (es : List Entry) →
+        LoadsTo true unknown_zero givens.now (codes_view tables.now) trees es → ⊥)) }
     // A fault is true of its table and of the entries where it stands.
     ensures true_fault { IfErr result (λ e. (e ≡ LoadFault.NoMemory) ⊎
         StopsFor true unknown_zero givens.now (codes_view tables.now) e) }

@@ -7,7 +7,7 @@ ghost use Rattle.std.specs.FinSet as set;
 ghost use Rattle.aml_namespace.specs.Namespace.{namespace_of, found};
 ghost use Rattle.aml_namespace.specs.Known.{StandsFor};
 ghost use Rattle.aml_space.specs.Near.{IsBelow};
-ghost use Rattle.aml_load.specs.Loading.{Listed, declare_as};
+ghost use Rattle.aml_load.specs.Declaring.{Listed, declare_as};
 ghost use Rattle.aml_load.specs.Running.{opened_at, object_at, scope_at, enter_as};
 ghost use Rattle.aml_load.specs.Walking.{at_site, GivesIn, Walks, Holds, IsInside, Stays, AreBelow};
 ghost use Rattle.aml_load.specs.Runner.{IsFlat, IsSite, Comes, opens, span_inside, with_terms, HasRoom};
@@ -316,7 +316,7 @@ impl Progress {
     }
 
     /// Does what the role of a term does that opens nothing.
-    #[tactic(auto, unfolding(crate::specs::Loading::declare_as))]
+    #[tactic(auto, unfolding(crate::specs::Declaring::declare_as))]
     fn declare_flat(
         &mut self,
         site: &Site<'_>,

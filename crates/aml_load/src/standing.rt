@@ -1,9 +1,10 @@
 //! The terms of a loaded set outside the methods' bodies, each where it stands.
 ghost use Rattle.std.specs.Prelude.{◌≡◌, ◌⊎◌, ◌++◌, ◌∷◌, [], List, ℕ, Bool, Ok, IfOk, IfErr, OnOk, length, true};
 ghost use Rattle.aml_code.specs.View.{node_view, nodes_view, parts_view, tail_view};
+ghost use Rattle.aml_namespace.specs.Namespace.{Entry};
 ghost use Rattle.aml_set.specs.Views.{trees_view};
-ghost use Rattle.aml_load.specs.Loading.{Listed, first_listed, strict, declare_as, declare, declare_inside};
-ghost use Rattle.aml_load.specs.Loading.{declare_all, under};
+ghost use Rattle.aml_load.specs.Declaring.{Listed, first_listed, strict, declare_as, declare, declare_inside};
+ghost use Rattle.aml_load.specs.Declaring.{declare_all, under};
 ghost use Rattle.aml_load.specs.Runner.{IsWithin};
 ghost use Rattle.aml_load.specs.Running.{behind_tree, behind_inside, behind_trees, behind_tables};
 ghost use Rattle.aml_load.specs.Standing.{stands, inside_as, term_stands, inside_stand, all_stand, set_stands};
@@ -11,7 +12,8 @@ ghost use Rattle.aml_load.specs.Standing.{tables_stand, run_term_stands, run_ins
 ghost use Rattle.aml_load.specs.Standing.{run_tables_stand, stand_by};
 ghost use Rattle.aml_load.specs.Standings.{standings_view, Finds, Found, declare_tables, declares_by, set_declares};
 ghost use Rattle.aml_load.specs.Standings.{FindsRun, behind_within, within_stand};
-ghost use Rattle.aml_load.specs.Tables.{LoadsTo, Fails};
+ghost use Rattle.aml_load.specs.Loading.{LoadsTo};
+ghost use Rattle.aml_load.specs.Tables.{Fails};
 ghost use Rattle.aml_load.specs.Walking.{at_site, Holds, IsInside, Stays};
 ghost use Rattle.aml_space.specs.Near.{IsBelow};
 
@@ -60,7 +62,7 @@ fn add_term<'a>(
 
 /// Finds a term and those inside it, and declares what they declare.
 #[cycle(find)]
-#[tactic(auto, unfolding(crate::specs::Loading::declare, crate::specs::Standing::term_stands))]
+#[tactic(auto, unfolding(crate::specs::Declaring::declare, crate::specs::Standing::term_stands))]
 fn find_term<'a>(
     progress: &mut Progress,
     site: &Site<'_>,
@@ -97,7 +99,7 @@ fn find_term<'a>(
 
 /// Does what a role does, and finds the terms inside.
 #[cycle(find)]
-#[tactic(auto, unfolding(crate::specs::Loading::declare_as, crate::specs::Standing::inside_as))]
+#[tactic(auto, unfolding(crate::specs::Declaring::declare_as, crate::specs::Standing::inside_as))]
 fn find_by_role<'a>(
     progress: &mut Progress,
     site: &Site<'_>,
@@ -170,7 +172,7 @@ fn find_below<'a>(
 
 /// Finds the terms inside a term.
 #[cycle(find)]
-#[tactic(auto, unfolding(crate::specs::Loading::declare_inside, crate::specs::Standing::inside_stand))]
+#[tactic(auto, unfolding(crate::specs::Declaring::declare_inside, crate::specs::Standing::inside_stand))]
 fn find_inside<'a>(
     progress: &mut Progress,
     site: &Site<'_>,
@@ -191,7 +193,7 @@ fn find_inside<'a>(
 
 /// Finds terms and those inside them, in the order of the text.
 #[cycle(find)]
-#[tactic(auto, unfolding(crate::specs::Loading::declare_all, crate::specs::Standing::all_stand))]
+#[tactic(auto, unfolding(crate::specs::Declaring::declare_all, crate::specs::Standing::all_stand))]
 fn find_terms<'a>(
     progress: &mut Progress,
     site: &Site<'_>,
@@ -413,7 +415,7 @@ pub fn standing_terms<'a>(
         standings_view x.items ≡ set_stands any_run givens.now (trees_view trees.now)) }
     // A refusal for another cause than memory comes only where no tables load to these trees.
     ensures complete { IfErr result (λ e. (e ≡ LoadFault.NoMemory) ⊎ ((unknown_zero : Bool) (tables : List (List ℕ))
-        (m : Listed) → LoadsTo any_run unknown_zero givens.now tables (trees_view trees.now) m → ⊥)) }
+        (es : List Entry) → LoadsTo any_run unknown_zero givens.now tables (trees_view trees.now) es → ⊥)) }
     // Which fault it is: the first that is met in declaring what the terms declare.
     ensures forward { IfErr result (λ e. Fails e (set_declares any_run givens.now (trees_view trees.now))) }
 {

@@ -1,8 +1,9 @@
 //! The names that stand as TermArgs outside the methods.
 ghost use Rattle.std.specs.Prelude.{◌≡◌, ◌++◌, ◌∷◌, [], List, OnOk, true, false, cond, length};
 ghost use Rattle.aml_code.specs.View.{node_view, nodes_view, part_view, parts_view, tail_view, field_view, fields_view};
-ghost use Rattle.aml_load.specs.Loading.{is_argument, kinds_in, in_declaration, declares_by, uses_in, all_uses};
-ghost use Rattle.aml_load.specs.Loading.{part_uses, parts_uses, tail_uses, fields_uses, field_uses, term_uses, strict};
+ghost use Rattle.aml_load.specs.Declaring.{is_argument, kinds_in, uses_in, all_uses, part_uses, parts_uses, tail_uses};
+ghost use Rattle.aml_load.specs.Declaring.{fields_uses, field_uses, term_uses, strict};
+ghost use Rattle.aml_load.specs.Loading.{in_declaration, declares_by};
 ghost use Rattle.aml_load.specs.Groups.{named_in, asked_as, asked_by};
 ghost use Rattle.aml_names.specs.declared.segments.Seg.{Seg as AnySeg};
 ghost use Rattle.aml_space.specs.Near.{IsOpen, IsNear};

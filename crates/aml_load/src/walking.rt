@@ -10,10 +10,10 @@ ghost use Rattle.aml_namespace.specs.Runs.{outlook_of, sure_at, open_in};
 ghost use Rattle.aml_namespace.specs.Known.{StandsFor, namespace_in};
 ghost use Rattle.aml_namespace.specs.declared.kinds.Kind.TheVariants.{Alias};
 ghost use Rattle.aml_space.specs.Near.{IsBelow, IsNear, IsSourceOf, IsTarget, path_of};
-ghost use Rattle.aml_load.specs.Loading.{under, Listed, plus, with_uses, method_entry, first_label, byte_of, lead_of};
-ghost use Rattle.aml_load.specs.Loading.{parent_of, sure_with, plain_entry, target_of};
-ghost use Rattle.aml_load.specs.Loading.{body_span, place_at, lead_at, entry_at, new_at, method_at, alias_at};
-ghost use Rattle.aml_load.specs.Loading.{external_at, units_at, declare_as, declare, declare_inside, declare_all};
+ghost use Rattle.aml_load.specs.Declaring.{under, Listed, plus, with_uses, first_label, byte_of, lead_of, target_of};
+ghost use Rattle.aml_load.specs.Declaring.{body_span, place_at, lead_at, entry_at, new_at, method_at, alias_at};
+ghost use Rattle.aml_load.specs.Declaring.{external_at, units_at, declare_as, declare, declare_inside, declare_all};
+ghost use Rattle.aml_load.specs.Loading.{method_entry, parent_of, sure_with, plain_entry};
 ghost use Rattle.aml_load.specs.Walking.{at_site, Gives, GivesIn, IsDeclared, Walks, IsInside, Stays, Holds, AreBelow};
 ghost use Rattle.aml_load.specs.Walking.{source_paths, sure_of};
 
@@ -69,7 +69,7 @@ fn first_name(parts: &[Part]) -> Option<&Name>
     }
 }
 
-#[tactic(auto, unfolding(crate::specs::Loading::place_at))]
+#[tactic(auto, unfolding(crate::specs::Declaring::place_at))]
 impl Progress {
     /// Where a term's name leads from its scope, without a search. `AboveRoot` where that is nowhere.
     pub fn own_path(&self, site: &Site<'_>, name: Option<&Name>) -> Result<PlacedPath, LoadFault>
@@ -123,7 +123,7 @@ impl Progress {
     }
 }
 
-#[tactic(auto, unfolding(crate::specs::Loading::lead_at))]
+#[tactic(auto, unfolding(crate::specs::Declaring::lead_at))]
 impl Progress {
     /// The path that a Scope opens. `ScopeMissing` where its name leads to nothing.
     pub fn scope_path(&self, site: &Site<'_>, name: Option<&Name>) -> Result<PlacedPath, LoadFault>
@@ -258,7 +258,7 @@ impl Progress {
     }
 
     /// Declares a path that has no body. `source`: what an Alias is declared of.
-    #[tactic(auto, unfolding(crate::specs::Loading::entry_at))]
+    #[tactic(auto, unfolding(crate::specs::Declaring::entry_at))]
     fn declare_of(
         &mut self,
         site: &Site<'_>,
@@ -325,7 +325,7 @@ impl Progress {
     }
 }
 
-#[tactic(auto, unfolding(crate::specs::Loading::new_at))]
+#[tactic(auto, unfolding(crate::specs::Declaring::new_at))]
 impl Progress {
     /// Declares a name as an Alias of a source, which stands for this path.
     fn declare_alias(
@@ -376,7 +376,7 @@ impl Progress {
 
 impl Progress {
     /// Declares a method. `TooManyMethods` where as many as there may be are there, whatever its name is.
-    #[tactic(auto, unfolding(crate::specs::Loading::method_at))]
+    #[tactic(auto, unfolding(crate::specs::Declaring::method_at))]
     pub fn add_method(
         &mut self,
         site: &Site<'_>,
@@ -395,7 +395,7 @@ impl Progress {
         self.declare_method(site, parts, tail)
     }
 
-    #[tactic(auto, unfolding(crate::specs::Loading::alias_at))]
+    #[tactic(auto, unfolding(crate::specs::Declaring::alias_at))]
     pub fn add_alias(&mut self, site: &Site<'_>, parts: &[Part]) -> Result<(), LoadFault>
         requires { IsInside self.old site.now }
         ensures walks { Walks self.old self.new result (λ l.
@@ -421,7 +421,7 @@ impl Progress {
         Ok(())
     }
 
-    #[tactic(auto, unfolding(crate::specs::Loading::external_at))]
+    #[tactic(auto, unfolding(crate::specs::Declaring::external_at))]
     pub fn add_external(&mut self, site: &Site<'_>, parts: &[Part]) -> Result<(), LoadFault>
         requires { IsInside self.old site.now }
         ensures walks { Walks self.old self.new result (λ l.
@@ -434,7 +434,7 @@ impl Progress {
     }
 }
 
-#[tactic(auto, unfolding(crate::specs::Loading::units_at))]
+#[tactic(auto, unfolding(crate::specs::Declaring::units_at))]
 impl Progress {
     /// Declares the unit of a field list with this segment.
     fn add_unit(&mut self, site: &Site<'_>, seg: Seg) -> Result<(), LoadFault>
@@ -540,7 +540,7 @@ impl Progress {
 impl Progress {
     /// Declares what a term declares, and what the terms inside it declare.
     #[cycle(walk)]
-    #[tactic(auto, unfolding(crate::specs::Loading::declare))]
+    #[tactic(auto, unfolding(crate::specs::Declaring::declare))]
     fn walk(&mut self, site: &Site<'_>, node: &Node) -> Result<(), LoadFault>
         requires { IsInside self.old site.now }
         ensures walks { Walks self.old self.new result (λ l. declare (at_site site.now) l (node_view node.now)) }
@@ -562,7 +562,7 @@ impl Progress {
 
     /// Does what a role does.
     #[cycle(walk)]
-    #[tactic(auto, unfolding(crate::specs::Loading::declare_as, crate::specs::Loading::declare_inside))]
+    #[tactic(auto, unfolding(crate::specs::Declaring::declare_as, crate::specs::Declaring::declare_inside))]
     fn walk_role(
         &mut self,
         site: &Site<'_>,
@@ -640,7 +640,7 @@ impl Progress {
 
     /// Declares what the terms inside a term declare.
     #[cycle(walk)]
-    #[tactic(auto, unfolding(crate::specs::Loading::declare_inside))]
+    #[tactic(auto, unfolding(crate::specs::Declaring::declare_inside))]
     fn walk_inside(&mut self, site: &Site<'_>, tail: &Tail) -> Result<(), LoadFault>
         requires { IsInside self.old site.now }
         ensures walks { Walks self.old self.new result (λ l.
@@ -655,7 +655,7 @@ impl Progress {
 
     /// Declares what these terms declare, in the order of the text.
     #[cycle(walk)]
-    #[tactic(auto, unfolding(crate::specs::Loading::declare_all))]
+    #[tactic(auto, unfolding(crate::specs::Declaring::declare_all))]
     pub fn walk_all(&mut self, site: &Site<'_>, terms: &[Node]) -> Result<(), LoadFault>
         requires { IsInside self.old site.now }
         ensures walks { Walks self.old self.new result (λ l.

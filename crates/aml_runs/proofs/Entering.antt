@@ -1,8 +1,8 @@
 -- What a term declares itself, by its role, beside what it does in a run (`enter_ran`); and beside a run that passes
 -- over it, where nothing is sure (`enter_past`).
-use Rattle.std.specs.Prelude.{◌&&◌, ◌||◌, IsSomeAnd, ok_or}
+use Rattle.std.specs.Prelude.{◌&&◌, ◌||◌, IsSomeAnd}
 use Rattle.std.proofs.Common.{◌≡◌, ℕ, ◌%◌, Bool, true, false, not, cond, List, [], ◌∷◌, ◌++◌, length, Option, Some}
-use Rattle.std.proofs.Common.{None, Result, Ok, Err, IfSome, is_some, refl, sym, ap, subst, ◌∙◌, ◌⊎◌, inl, inr, nat_le}
+use Rattle.std.proofs.Common.{None, Ok, Err, IfSome, is_some, refl, sym, ap, subst, ◌∙◌, ◌⊎◌, inl, inr, nat_le}
 use Rattle.std.proofs.lemmas.Bool.{false≢true}
 use Rattle.std.proofs.lemmas.Option.{same_Some}
 use Rattle.std.specs.FinSet as set
@@ -25,43 +25,19 @@ use Rattle.aml_namespace.specs.Runs.{kinds_at, may_miss}
 use Rattle.aml_namespace.proofs.Finding.{found_holds}
 use Rattle.aml_namespace.proofs.Growing.{none_declared, opens_there, placed_unsure, leads_nowhere, leads_there}
 use Rattle.aml_namespace.proofs.Growing.{aims_alike}
-use Rattle.aml_load.specs.declared.faults.LoadFault.{LoadFault}
-use Rattle.aml_load.specs.Loading.{◌>>=◌, Where, Listed, plus, kind_of, byte_of, body_span, first_label, parent_of}
-use Rattle.aml_load.specs.Loading.{sure_here, sure_with, plain_entry, method_entry, alias_entry, target_by, target_of}
-use Rattle.aml_load.specs.Loading.{place_at, lead_at, entry_at, new_at, method_at, alias_at, external_at, units_at}
-use Rattle.aml_load.specs.Loading.{lead_of, declare_as, most_methods, methods_of}
+use Rattle.aml_load.specs.Declaring.{◌>>=◌, Listed, plus, byte_of, body_span, first_label, target_of, place_at, lead_at}
+use Rattle.aml_load.specs.Declaring.{entry_at, new_at, method_at, alias_at, external_at, units_at, lead_of, declare_as}
+use Rattle.aml_load.specs.Declaring.{most_methods}
+use Rattle.aml_load.specs.Loading.{kind_of, parent_of, sure_here, sure_with, plain_entry, method_entry}
+use Rattle.aml_load.specs.Loading.{alias_entry, target_by, methods_of}
 use Rattle.aml_load.specs.declared.faults.LoadFault.TheVariants as loads
 use Rattle.aml_load.specs.Running.{Front, in_path, opened_by, opened_at, object_at, scope_at, enter_as}
+use Rattle.aml_load.proofs.Doing.{bound, value_is, run_site as site_at, front, is_flat}
 use Rattle.aml_runs.specs.TableRuns.{RunsInside, is_passed, with_path, gained, gained_at, path_in, found_in}
 use Rattle.aml_runs.specs.TableRuns.{units_gained, alias_gained, RunsObject, may_open, RunsScope, RunsAs, IsSelection}
 use Rattle.aml_runs.proofs.Selecting.{missed, declared_too, aimed_too, stands_above, passed_over, gained_too}
 
--- ---- Steps that gave something.
-
-bound : {A B : Type 0} (r : Result A LoadFault) (f : A → Result B LoadFault) (y : B) → (r >>= f) ≡ Ok y
-    → (x : A) × (r ≡ Ok x) × (f x ≡ Ok y)
-bound (Ok x) f y is = (x, refl, is)
-bound (Err e) f y is = absurd cc
-
-value_is : {A : Type 0} (o : Option A) (e : LoadFault) (x : A) → ok_or o e ≡ Ok x → o ≡ Some x
-value_is None e x is = absurd cc
-value_is (Some y) e x is = let same : y ≡ x = cc in ap Some same
-
 -- ---- In front of a term, where the code outside methods may run.
-
-abbrev pub site_at : ℕ → List Seg → Bool → Where
-site_at t s b = record { table = t; scope = s; any_run = true; sure = b }
-
-abbrev pub front : ℕ → List Seg → Bool → Listed → Front
-front t s b l = record { listed = l; site = site_at t s b }
-
--- a role of terms that have no terms inside them
-abbrev pub is_flat : Role → Bool
-is_flat roles.Method = true
-is_flat roles.Alias = true
-is_flat roles.External = true
-is_flat roles.Fields = true
-is_flat _ = false
 
 -- What a term does beside a run: it goes into the terms inside it, as the run does; it goes into them and the run
 -- passes over them, where nothing is sure; or there are none.

@@ -21,12 +21,15 @@ use Rattle.aml_namespace.specs.Namespace.{Entry, given, given_entries, Givens, N
 use Rattle.aml_namespace.specs.Runs.{IsRun, Finds, EveryRunAgrees, outlook_of, counts_met, common, arity_met}
 use Rattle.aml_namespace.specs.Runs as runs
 use Rattle.aml_load.specs.declared.faults.LoadFault.{LoadFault}
-use Rattle.aml_load.specs.Loading.{role_of, Listed, with_uses, first_listed}
+use Rattle.aml_load.specs.Declaring.{Listed, with_uses, first_listed}
+use Rattle.aml_load.specs.Loading.{role_of}
 use Rattle.aml_load.specs.Running.{Front, asked, entered_at, run_names}
 use Rattle.aml_load.specs.Tables.{ReadTables}
+use Rattle.aml_load.proofs.Relating.{loads_so}
 use Rattle.aml_runs.specs.TableRuns.{Runs, RunTerms, RunTables, IsSelection, RunsAreSelections, EveryRunOfTablesAgrees}
 use Rattle.aml_runs.proofs.Leading.{run_finds}
-use Rattle.aml_runs.proofs.Entering.{site_at, front, is_flat, inwards, past, flat, enter_ran, enter_past}
+use Rattle.aml_load.proofs.Doing.{run_site as site_at, front, is_flat}
+use Rattle.aml_runs.proofs.Entering.{inwards, past, flat, enter_ran, enter_past}
 
 -- ---- Terms stand only inside what loading goes into.
 
@@ -155,8 +158,9 @@ givens_missed (g ∷ gs) = runs.missed (given g.0 g.1) refl (givens_missed gs)
 
 pub runs_are_selections : (unknown_zero : Bool) (gs : Givens) (tables : List (List ℕ))
     → RunsAreSelections unknown_zero gs tables
-runs_are_selections unknown_zero gs tables trees m loads n ran =
-    tables_ran 0 (first_listed gs) tables trees m [] n loads.read (record { kept = []; run = givens_missed gs; same = refl }) ran
+runs_are_selections unknown_zero gs tables trees es loads n ran =
+    let lists = loads_so true unknown_zero gs tables trees es loads in
+    tables_ran 0 (first_listed gs) tables trees (record { entries = es; uses = lists.0 }) [] n lists.1.read (record { kept = []; run = givens_missed gs; same = refl }) ran
 
 -- the count that all kinds agree on is the one that every run agrees on
 told : (ns : List ℕ) (differ unmet : Option ℕ) → is_some (common ns) ≡ true → arity_met ns differ unmet ≡ common ns
@@ -170,9 +174,9 @@ told (n ∷ ns) differ unmet some = by (common (n ∷ ns)) some
 -- what holds of each selection of entries holds of each run of tables
 pub by_selections : ((es : List Entry) → EveryRunAgrees es) → (unknown_zero : Bool) (gs : Givens) (tables : List (List ℕ))
     → RunsAreSelections unknown_zero gs tables → EveryRunOfTablesAgrees unknown_zero gs tables
-by_selections agrees unknown_zero gs tables selections trees m loads n ran zero_too scope locals name some finds =
-    let s = selections trees m loads n ran in
+by_selections agrees unknown_zero gs tables selections trees es loads n ran zero_too scope locals name some finds =
+    let s = selections trees es loads n ran in
     ap (λ (k : Namespace). arity_of k zero_too scope locals name) s.same
-    ∙ agrees m.entries s.kept s.run zero_too scope locals name some
+    ∙ agrees es s.kept s.run zero_too scope locals name some
     (subst (λ (k : Namespace). Finds k locals scope name) s.same (run_finds trees n ran locals scope name finds))
-    ∙ told (counts_met (outlook_of m.entries) locals (candidates scope name)) _ _ some
+    ∙ told (counts_met (outlook_of es) locals (candidates scope name)) _ _ some

@@ -19,10 +19,12 @@ use Rattle.aml_namespace.specs.declared.kinds.Kind.{Kind}
 use Rattle.aml_namespace.specs.declared.kinds.Kind.TheVariants as kinds
 use Rattle.aml_namespace.specs.Namespace.{Entry, declares}
 use Rattle.aml_load.specs.declared.faults.LoadFault.{LoadFault}
-use Rattle.aml_load.specs.Loading.{Listed, role_of, place_at, entry_at, declare_as, method_at, new_at, alias_at}
-use Rattle.aml_load.specs.Loading.{lead_at, uses_at}
+use Rattle.aml_load.specs.Declaring.{Listed, place_at, entry_at, declare_as, method_at, new_at, alias_at, lead_at}
+use Rattle.aml_load.specs.Declaring.{uses_at}
+use Rattle.aml_load.specs.Loading.{role_of}
 use Rattle.aml_load.specs.Running.{entered_at, enter_as, object_at, scope_at, opened_at}
-use Rattle.aml_load.specs.Tables.{LoadsTo, StopsFor, load_at, tables_at, table_at, LoadsForward}
+use Rattle.aml_load.specs.Loading.{LoadsTo}
+use Rattle.aml_load.specs.Tables.{StopsFor, load_at, tables_at, table_at, LoadsForward}
 use Rattle.aml_runs.specs.TableRuns.{IsRunOf}
 use Rattle.aml_runs.specs.Worked.{unsourced_code, unsourced_terms, unsourced_run, path, dev0_bar, new, terms_of}
 use Rattle.aml_runs.specs.Worked.{declaration, IsWorked, early_code, early_terms, early_run, untaken_code}
@@ -44,9 +46,9 @@ abbrev Forward : Type 0
 Forward = (codes : List (List ℕ)) → LoadsForward true false [] codes
 
 loads_by : Forward → (code : List ℕ) (ts : Trees) (m : Listed) → list_all (λ b. nat_lt b 256) code ≡ true
-    → load_at true false [] (code ∷ []) ≡ Ok (ts ∷ [], m) → LoadsTo true false [] (code ∷ []) (ts ∷ []) m
+    → load_at true false [] (code ∷ []) ≡ Ok (ts ∷ [], m) → LoadsTo true false [] (code ∷ []) (ts ∷ []) m.entries
 loads_by forward code ts m bytes is =
-    subst (λ (r : Result (List Trees × Listed) LoadFault). MatchResult r (λ x. LoadsTo true false [] (code ∷ []) x.0 x.1) (λ e. StopsFor true false [] (code ∷ []) e))
+    subst (λ (r : Result (List Trees × Listed) LoadFault). MatchResult r (λ x. LoadsTo true false [] (code ∷ []) x.0 x.1.entries) (λ e. StopsFor true false [] (code ∷ []) e))
     is (forward (code ∷ []) (bytes_below code bytes, tt))
 
 -- what is listed: methods with the span of their body, and other entries
@@ -204,7 +206,7 @@ aimed_ran = (
 module _ (forward : Forward) where
   pub early : IsWorked early_code early_terms early_run dev0_bar 1
   early = record {
-    listed = early_listed;
+    entries = early_listed.entries;
     loads = loads_by forward early_code (terms_of early_terms) early_listed refl loads.0;
     run = early_ran;
     counted = simp (set.contains-empty path_cmp);
@@ -213,7 +215,7 @@ module _ (forward : Forward) where
 
   pub untaken : IsWorked untaken_code untaken_terms untaken_run dev0_bar 1
   untaken = record {
-    listed = untaken_listed;
+    entries = untaken_listed.entries;
     loads = loads_by forward untaken_code (terms_of untaken_terms) untaken_listed refl loads.1;
     run = untaken_ran;
     counted = simp (set.contains-empty path_cmp);
@@ -222,7 +224,7 @@ module _ (forward : Forward) where
 
   pub left : IsWorked left_code left_terms left_run dev0_bar 1
   left = record {
-    listed = left_listed;
+    entries = left_listed.entries;
     loads = loads_by forward left_code (terms_of left_terms) left_listed refl loads.2;
     run = left_ran;
     counted = simp (set.contains-empty path_cmp);
@@ -231,7 +233,7 @@ module _ (forward : Forward) where
 
   pub under_name : IsWorked named_code named_terms named_run dev0_bar 1
   under_name = record {
-    listed = named_listed;
+    entries = named_listed.entries;
     loads = loads_by forward named_code (terms_of named_terms) named_listed refl loads.3;
     run = named_ran;
     counted = simp (set.contains-empty path_cmp);
@@ -240,7 +242,7 @@ module _ (forward : Forward) where
 
   pub opened : IsWorked named_code named_terms opened_run dev0_bar 2
   opened = record {
-    listed = named_listed;
+    entries = named_listed.entries;
     loads = loads_by forward named_code (terms_of named_terms) named_listed refl loads.3;
     run = opened_ran;
     counted = simp (set.contains-empty path_cmp);
@@ -249,7 +251,7 @@ module _ (forward : Forward) where
 
   pub unsourced : IsWorked unsourced_code unsourced_terms unsourced_run new 1
   unsourced = record {
-    listed = unsourced_listed;
+    entries = unsourced_listed.entries;
     loads = loads_by forward unsourced_code (terms_of unsourced_terms) unsourced_listed refl loads.4;
     run = unsourced_ran;
     counted = simp (set.contains-empty path_cmp);
@@ -258,7 +260,7 @@ module _ (forward : Forward) where
 
   pub aimed : IsWorked aimed_code aimed_terms aimed_run new 2
   aimed = record {
-    listed = aimed_listed;
+    entries = aimed_listed.entries;
     loads = loads_by forward aimed_code (terms_of aimed_terms) aimed_listed refl loads.5;
     run = aimed_ran;
     counted = simp (set.contains-empty path_cmp);

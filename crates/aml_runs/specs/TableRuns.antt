@@ -19,8 +19,8 @@ use Rattle.aml_namespace.specs.declared.kinds.Kind.TheVariants as kinds
 use Rattle.aml_namespace.specs.Namespace.{Entry, Givens, declares, declared_at, namespace_of, kind_at, decides}
 use Rattle.aml_namespace.specs.Namespace.{arity_of}
 use Rattle.aml_namespace.specs.Runs.{outlook_of, arity_by_kinds, opens_scope, IsRun, means}
-use Rattle.aml_load.specs.Loading.{role_of, kind_of, Listed, byte_of, first_label, parent_of, target_of}
-use Rattle.aml_load.specs.Tables.{LoadsTo}
+use Rattle.aml_load.specs.Declaring.{byte_of, first_label, target_of}
+use Rattle.aml_load.specs.Loading.{role_of, kind_of, parent_of, LoadsTo}
 
 -- ---- What stands in a run so far: a list of declarations. All of them are there, and bodies play no part.
 
@@ -140,8 +140,8 @@ pub record IsSelection (es n : List Entry) : Type 0 where
 
 -- each run of tables is a selection of the entries to which they load
 abbrev pub RunsAreSelections : Bool → Givens → List (List ℕ) → Type 0
-RunsAreSelections unknown_zero gs tables = (trees : List Trees) (m : Listed) →
-    LoadsTo true unknown_zero gs tables trees m → (n : List Entry) → IsRunOf trees n → IsSelection m.entries n
+RunsAreSelections unknown_zero gs tables = (trees : List Trees) (es : List Entry) →
+    LoadsTo true unknown_zero gs tables trees es → (n : List Entry) → IsRunOf trees n → IsSelection es n
 
 -- in a run a name finds one of the locals, or a path at which something stands
 abbrev pub FindsIn : List Entry → PathSet → List Seg → Name → Type 0
@@ -150,8 +150,8 @@ FindsIn n locals scope name = IsSome (find (decides (namespace_of n) locals) (ca
 -- Where the kinds that a name may mean agree on a count, the name has that count in every run of the tables in which it
 -- finds anything.
 abbrev pub EveryRunOfTablesAgrees : Bool → Givens → List (List ℕ) → Type 0
-EveryRunOfTablesAgrees unknown_zero gs tables = (trees : List Trees) (m : Listed) →
-    LoadsTo true unknown_zero gs tables trees m → (n : List Entry) → IsRunOf trees n →
+EveryRunOfTablesAgrees unknown_zero gs tables = (trees : List Trees) (es : List Entry) →
+    LoadsTo true unknown_zero gs tables trees es → (n : List Entry) → IsRunOf trees n →
     (zero_too : Bool) (scope : List Seg) (locals : PathSet) (name : Name) →
-    IsSome (arity_by_kinds (outlook_of m.entries) scope locals name) → FindsIn n locals scope name →
-    arity_of (namespace_of n) zero_too scope locals name ≡ arity_by_kinds (outlook_of m.entries) scope locals name
+    IsSome (arity_by_kinds (outlook_of es) scope locals name) → FindsIn n locals scope name →
+    arity_of (namespace_of n) zero_too scope locals name ≡ arity_by_kinds (outlook_of es) scope locals name

@@ -14,8 +14,7 @@ use Rattle.aml_namespace.specs.declared.kinds.Kind.{Kind}
 use Rattle.aml_namespace.specs.declared.kinds.Kind.TheVariants as kinds
 use Rattle.aml_namespace.specs.Namespace.{Entry, declares, namespace_of, arity_of}
 use Rattle.aml_namespace.specs.Runs.{outlook_of, arity_by_kinds}
-use Rattle.aml_load.specs.Loading.{Listed}
-use Rattle.aml_load.specs.Tables.{LoadsTo}
+use Rattle.aml_load.specs.Loading.{LoadsTo}
 use Rattle.aml_runs.specs.TableRuns.{IsRunOf}
 
 -- ---- Names, terms and declarations.
@@ -72,11 +71,11 @@ new = one "NEW_"
 -- A table of these bytes loads as these terms, and has this run. In it the name takes so many arguments in the method
 -- CALL, though the kinds that it may mean don't tell it.
 pub record IsWorked (code : List ℕ) (ts : List Tree) (n : List Entry) (name : Name) (count : ℕ) : Type 0 where
-  pub listed : Listed
-  pub loads : LoadsTo true false [] (code ∷ []) (terms_of ts ∷ []) listed
+  pub entries : List Entry
+  pub loads : LoadsTo true false [] (code ∷ []) (terms_of ts ∷ []) entries
   pub run : IsRunOf (terms_of ts ∷ []) n
   pub counted : arity_of (namespace_of n) false (path ("CALL" ∷ [])) set.empty name ≡ Some count
-  pub untold : arity_by_kinds (outlook_of listed.entries) (path ("CALL" ∷ [])) set.empty name ≡ None
+  pub untold : arity_by_kinds (outlook_of entries) (path ("CALL" ∷ [])) set.empty name ≡ None
 
 -- A declaration below a path that comes later is passed over.
 --     Name (\DEV0.BAR_, Zero)

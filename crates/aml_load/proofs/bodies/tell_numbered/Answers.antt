@@ -1,4 +1,4 @@
-use Rattle.std.proofs.Common.{◌≡◌, arith, Ok, Err, ap}
+use Rattle.std.proofs.Common.{arith, Ok, Err, ap}
 use Rattle.std.proofs.lemmas.Result.{on_ok_weaker, IfErr-weaker}
 use Rattle.aml_code.specs.Tree.{Trees}
 use Rattle.aml_namespace.specs.Known.{of_paths, BodyView}

@@ -1,4 +1,4 @@
-use Rattle.aml_load.proofs.RunSpans.{loads_in_text_order}
+use Rattle.aml_load.proofs.Loads.{loads_in_text_order}
 use Rattle.aml_load.proofs.laws.loads_in_text_order.Goals as goal
 
 pub returns : goal.returns

@@ -6,7 +6,7 @@ use Rattle.aml_namespace.specs.Known.{StandsFor}
 use Rattle.aml_namespace.proofs.Stands.{stands_alone}
 use Rattle.aml_space.specs.declared.bodies.BodyNames.{BodyNames}
 use Rattle.aml_load.specs.Groups.{named_in, use_in}
-use Rattle.aml_load.specs.Loading.{Listed, use_count, call_fault, uses_at}
+use Rattle.aml_load.specs.Declaring.{Listed, use_count, call_fault, uses_at}
 use Rattle.aml_load.proofs.loading.check_group.Goals as goal
 use Rattle.aml_load.proofs.loading.check_group.Goals.{In_ok-count}
 

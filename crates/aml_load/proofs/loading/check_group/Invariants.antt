@@ -1,7 +1,7 @@
 use Rattle.std.proofs.Common.{◌≡◌, drop}
 use Rattle.aml_namespace.specs.Known.{StandsFor, of_paths}
 use Rattle.aml_load.specs.Groups.{group_uses, named_in}
-use Rattle.aml_load.specs.Loading.{Listed, uses_at}
+use Rattle.aml_load.specs.Declaring.{Listed, uses_at}
 use Rattle.aml_load.proofs.loading.check_group.Given as goal
 
 abbrev pub invariant-loop-asked : goal.invariant-loop-asked

@@ -1,4 +1,4 @@
-use Rattle.std.proofs.Common.{◌≡◌, ◌++◌, ◌∷◌, [], ◌+◌, if◌then◌else◌, Bool, List, Result, Ok, Err, Some, drop}
+use Rattle.std.proofs.Common.{◌≡◌, ◌++◌, ◌∷◌, [], ◌+◌, if◌then◌else◌, Bool, List, Ok, Err, Some, drop}
 use Rattle.std.proofs.Common.{refl, subst, sym, ap, inl, inr, ◌∙◌, false, true}
 use Rattle.std.specs.Prelude.{nat_eq}
 use Rattle.std.specs.Option.{option_eq}
@@ -7,7 +7,7 @@ use Rattle.std.proofs.lemmas.Result.{err_from_is_err_and}
 use Rattle.aml_namespace.specs.Namespace.{Entry}
 use Rattle.aml_load.specs.declared.faults.LoadFault.{LoadFault}
 use Rattle.aml_load.specs.Groups.{group_uses, uses_of}
-use Rattle.aml_load.specs.Loading.{Use, use_count, call_fault, uses_at}
+use Rattle.aml_load.specs.Declaring.{Use, use_count, call_fault, uses_at}
 use Rattle.aml_load.specs.Tables.{Fails}
 use Rattle.aml_load.proofs.loading.check_uses.Goals as goal
 

@@ -1,7 +1,7 @@
 use Rattle.std.proofs.Common.{◌≡◌, drop}
 use Rattle.aml_namespace.specs.Known.{StandsFor}
 use Rattle.aml_load.specs.Groups.{uses_of}
-use Rattle.aml_load.specs.Loading.{Listed, uses_at}
+use Rattle.aml_load.specs.Declaring.{Listed, uses_at}
 use Rattle.aml_load.proofs.loading.check_uses.Given as goal
 
 abbrev pub invariant-loop-group : goal.invariant-loop-group

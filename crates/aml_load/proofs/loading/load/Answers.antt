@@ -10,7 +10,7 @@ returns-clause-sound c =
 
 pub returns-clause-few : goal.returns-clause-few
 returns-clause-few c =
-    given_few false false c.args.givens.now (codes_view c.args.tables.now) HoldsLoad (λ x. x.methods.items) (λ x trees m h. h.methods) c.load_lists.result c.load_lists.ensures.bytes
+    given_few false false c.args.givens.now (codes_view c.args.tables.now) HoldsLoad (λ x. x.methods.items) (λ x trees es h. h.methods) c.load_lists.result c.load_lists.ensures.bytes
     c.load_lists.ensures.gives
 
 pub returns-clause-one : goal.returns-clause-one

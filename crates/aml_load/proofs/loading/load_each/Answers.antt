@@ -3,7 +3,7 @@ use Rattle.std.proofs.lemmas.Result.{err_from_is_err_and}
 use Rattle.aml_namespace.specs.Known.{StandsFor}
 use Rattle.aml_set.specs.Numbers.{AreNumbered}
 use Rattle.aml_load.specs.Groups.{uses_of}
-use Rattle.aml_load.specs.Loading.{first_listed}
+use Rattle.aml_load.specs.Declaring.{first_listed}
 use Rattle.aml_set.specs.Views.{table_codes, table_terms}
 use Rattle.aml_load.proofs.Loads.{load_gives, load_refused}
 use Rattle.aml_load.proofs.loading.load_each.Goals as goal

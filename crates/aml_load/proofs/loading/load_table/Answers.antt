@@ -6,7 +6,7 @@ use Rattle.aml_code.specs.declared.tree.Node.{Node}
 use Rattle.aml_parse.specs.Running.{run_table_at}
 use Rattle.aml_load.specs.declared.faults.LoadFault.{LoadFault}
 use Rattle.aml_load.specs.declared.walking.Progress.{Progress}
-use Rattle.aml_load.specs.Loading.{◌>>=◌, Listed}
+use Rattle.aml_load.specs.Declaring.{◌>>=◌, Listed}
 use Rattle.aml_load.specs.Running.{Front, table_front, run_names}
 use Rattle.aml_load.specs.Runner.{AllRan}
 use Rattle.aml_load.specs.Tables.{table_at}

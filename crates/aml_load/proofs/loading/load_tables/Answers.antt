@@ -11,7 +11,7 @@ returns-clause-sound c =
 
 pub returns-clause-few : goal.returns-clause-few
 returns-clause-few c =
-    given_few c.args.any_run c.args.unknown_zero c.args.givens.now (table_codes c.args.tables.items) HoldsTables (λ x. x.methods.items) (λ x trees m h. h.methods) c.load_each.result (inr (are_codes c.args.tables.items))
+    given_few c.args.any_run c.args.unknown_zero c.args.givens.now (table_codes c.args.tables.items) HoldsTables (λ x. x.methods.items) (λ x trees es h. h.methods) c.load_each.result (inr (are_codes c.args.tables.items))
     c.load_each.ensures.gives
 
 pub returns-clause-one : goal.returns-clause-one

@@ -1,5 +1,5 @@
 use Rattle.std.proofs.Common.{◌≡◌, [], drop, take}
-use Rattle.aml_load.specs.Loading.{Listed}
+use Rattle.aml_load.specs.Declaring.{Listed}
 use Rattle.aml_load.specs.Tables.{tables_at}
 use Rattle.aml_load.specs.Walking.{Holds}
 use Rattle.aml_set.specs.Views.{table_codes, table_dumps, table_terms}

@@ -1,4 +1,4 @@
-use Rattle.std.proofs.Common.{◌≡◌, [], take}
+use Rattle.std.proofs.Common.{take}
 use Rattle.aml_namespace.specs.Namespace.{given_entries}
 use Rattle.aml_namespace.specs.Known.{StandsFor}
 use Rattle.aml_load.proofs.loading.space_with.Given as goal

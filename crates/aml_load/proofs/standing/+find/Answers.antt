@@ -1,6 +1,6 @@
 use Rattle.std.proofs.Common.{sym, subst}
 use Rattle.aml_code.specs.View.{node_view, parts_view, tail_view}
-use Rattle.aml_load.specs.Loading.{with_uses, declare_as, declare_inside}
+use Rattle.aml_load.specs.Declaring.{with_uses, declare_as, declare_inside}
 use Rattle.aml_load.specs.Standing.{stands, inside_as, term_stands, inside_stand}
 use Rattle.aml_load.specs.Standings.{Found}
 use Rattle.aml_load.specs.Walking.{at_site}

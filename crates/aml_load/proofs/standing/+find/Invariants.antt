@@ -1,6 +1,6 @@
 use Rattle.std.proofs.Common.{◌≡◌, ◌++◌, drop}
 use Rattle.aml_code.specs.View.{nodes_view}
-use Rattle.aml_load.specs.Loading.{Listed, declare_all}
+use Rattle.aml_load.specs.Declaring.{Listed, declare_all}
 use Rattle.aml_load.specs.Standing.{all_stand}
 use Rattle.aml_load.specs.Standings.{standings_view}
 use Rattle.aml_load.specs.Walking.{at_site, Holds, Stays}

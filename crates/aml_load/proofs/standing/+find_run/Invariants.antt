@@ -1,6 +1,6 @@
 use Rattle.std.proofs.Common.{◌≡◌, ◌++◌, drop}
 use Rattle.aml_code.specs.View.{nodes_view}
-use Rattle.aml_load.specs.Loading.{Listed}
+use Rattle.aml_load.specs.Declaring.{Listed}
 use Rattle.aml_load.specs.Runner.{front_of}
 use Rattle.aml_load.specs.Running.{behind_trees}
 use Rattle.aml_load.specs.Standing.{run_all_stand}

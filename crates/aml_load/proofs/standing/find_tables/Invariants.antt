@@ -1,6 +1,6 @@
 use Rattle.std.proofs.Common.{◌≡◌, ◌++◌, drop}
 use Rattle.aml_set.specs.Views.{trees_view}
-use Rattle.aml_load.specs.Loading.{Listed}
+use Rattle.aml_load.specs.Declaring.{Listed}
 use Rattle.aml_load.specs.Standing.{tables_stand}
 use Rattle.aml_load.specs.Standings.{standings_view, declare_tables}
 use Rattle.aml_load.specs.Walking.{Holds}

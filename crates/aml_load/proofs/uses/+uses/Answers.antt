@@ -1,6 +1,6 @@
 use Rattle.std.proofs.Common.{◌≡◌, ◌++◌, ◌∙◌, OnOk, ap, false, subst, sym}
 use Rattle.aml_code.specs.View.{fields_view, nodes_view, tail_view}
-use Rattle.aml_load.specs.Loading.{all_uses, fields_uses, tail_uses}
+use Rattle.aml_load.specs.Declaring.{all_uses, fields_uses, tail_uses}
 use Rattle.aml_load.specs.Groups.{asked_by, named_in}
 use Rattle.aml_code.proofs.Views.{view-tail-Elements, view-tail-Fields}
 use Rattle.aml_load.proofs.Asking.{named_uses, op_uses}

@@ -1,7 +1,7 @@
 use Rattle.std.proofs.Common.{◌≡◌, ◌++◌, drop, List}
 use Rattle.aml_names.specs.declared.segments.Seg.{Seg}
 use Rattle.aml_code.specs.View.{nodes_view, parts_view, fields_view}
-use Rattle.aml_load.specs.Loading.{parts_uses, all_uses, fields_uses}
+use Rattle.aml_load.specs.Declaring.{parts_uses, all_uses, fields_uses}
 use Rattle.aml_load.specs.Groups.{asked_by, named_in}
 use Rattle.aml_load.proofs.uses.+uses.Given as goal
 

@@ -1,6 +1,6 @@
 use Rattle.std.proofs.Common.{◌≡◌, ◌≤◌, ◌+◌, ◌-◌, ◌*◌}
 use Rattle.aml_parse.specs.Running.{run_terms_at, run_span_at}
-use Rattle.aml_load.specs.Loading.{Listed}
+use Rattle.aml_load.specs.Declaring.{Listed}
 use Rattle.aml_load.specs.Running.{run_names}
 use Rattle.aml_load.specs.Runner.{front_of, below, HasRoom}
 use Rattle.aml_load.specs.Walking.{Holds, Stays}

@@ -3,7 +3,8 @@ use Rattle.std.specs.Prelude.{◌==◌}
 use Rattle.std.proofs.lemmas.Bool.{eqb-true}
 use Rattle.aml_code.specs.declared.tree.Node.{Node}
 use Rattle.aml_code.specs.View.{node_view, nodes_view}
-use Rattle.aml_load.specs.Loading.{Listed, Where, under, with_uses, declare_all}
+use Rattle.aml_load.specs.Declaring.{Listed, under, with_uses, declare_all}
+use Rattle.aml_load.specs.Loading.{Where}
 use Rattle.aml_load.specs.Walking.{at_site, Walked}
 use Rattle.aml_load.proofs.Holding.{declare_op}
 use Rattle.aml_load.proofs.walking.Progress.+walk.Goals as goal

@@ -1,6 +1,6 @@
 use Rattle.std.proofs.Common.{◌≡◌, drop}
 use Rattle.aml_code.specs.View.{nodes_view}
-use Rattle.aml_load.specs.Loading.{Listed, declare_all}
+use Rattle.aml_load.specs.Declaring.{Listed, declare_all}
 use Rattle.aml_load.specs.Walking.{at_site, Holds, Stays}
 use Rattle.aml_load.proofs.walking.Progress.+walk.Given as goal
 

@@ -2,7 +2,7 @@ use Rattle.std.proofs.Common.{◌++◌, ◌∷◌, [], refl, subst}
 use Rattle.aml_namespace.specs.Namespace.{external}
 use Rattle.aml_namespace.specs.Known.{StandsFor}
 use Rattle.aml_namespace.proofs.Numbers.{scopes_grown, still_at}
-use Rattle.aml_load.specs.Loading.{plus}
+use Rattle.aml_load.specs.Declaring.{plus}
 use Rattle.aml_load.proofs.Holding.{plain_held}
 use Rattle.aml_load.proofs.walking.Progress.add_count.Goals as goal
 

@@ -2,7 +2,7 @@ use Rattle.std.proofs.Common.{◌≡◌, ◌∷◌, ◌+◌, drop, sym, ap, ◌�
 use Rattle.std.proofs.lemmas.List.{drop_more}
 use Rattle.aml_code.specs.Lawful.{unit_names}
 use Rattle.aml_code.specs.View.{field_view, fields_view}
-use Rattle.aml_load.specs.Loading.{units_at}
+use Rattle.aml_load.specs.Declaring.{units_at}
 use Rattle.aml_load.specs.Walking.{at_site}
 use Rattle.aml_load.proofs.Holding.{units_more}
 use Rattle.aml_load.proofs.walking.Progress.add_fields.Goals as goal

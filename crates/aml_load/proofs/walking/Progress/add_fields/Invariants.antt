@@ -1,7 +1,7 @@
 use Rattle.std.proofs.Common.{◌≡◌, drop}
 use Rattle.aml_code.specs.Lawful.{unit_names}
 use Rattle.aml_code.specs.View.{fields_view}
-use Rattle.aml_load.specs.Loading.{Listed, units_at}
+use Rattle.aml_load.specs.Declaring.{Listed, units_at}
 use Rattle.aml_load.specs.Walking.{at_site, Holds, Stays}
 use Rattle.aml_load.proofs.walking.Progress.add_fields.Given as goal
 

@@ -2,7 +2,7 @@ use Rattle.std.specs.Prelude.{OnOk}
 use Rattle.std.proofs.Common.{Result, Ok, Err, ◌≡◌, ◌++◌, ap, refl, ◌∙◌}
 use Rattle.aml_code.specs.View.{node_view}
 use Rattle.aml_load.specs.Groups.{named_in, uses_of}
-use Rattle.aml_load.specs.Loading.{Listed, term_uses, strict}
+use Rattle.aml_load.specs.Declaring.{Listed, term_uses, strict}
 use Rattle.aml_load.specs.Walking.{at_site}
 use Rattle.aml_load.proofs.Holding.{uses_held}
 use Rattle.aml_load.proofs.walking.Progress.ask.Goals as goal

@@ -4,7 +4,8 @@ use Rattle.aml_namespace.proofs.Numbers.{scopes_grown, still_at}
 use Rattle.aml_namespace.proofs.Stands.{stands_grown}
 use Rattle.aml_namespace.specs.declared.kinds.Kind.TheVariants as kinds
 use Rattle.aml_space.specs.Near.{IsNear}
-use Rattle.aml_load.specs.Loading.{plus, sure_here, method_entry}
+use Rattle.aml_load.specs.Declaring.{plus}
+use Rattle.aml_load.specs.Loading.{sure_here, method_entry}
 use Rattle.aml_load.specs.Walking.{at_site}
 use Rattle.aml_load.proofs.Holding.{method_held, entry_free, entry_taken}
 use Rattle.aml_load.proofs.walking.Progress.declare_body.Goals as goal

@@ -1,5 +1,5 @@
 use Rattle.std.proofs.Common.{rules}
-use Rattle.aml_load.specs.Loading.{lead_at}
+use Rattle.aml_load.specs.Declaring.{lead_at}
 use Rattle.aml_load.proofs.walking.Progress.scope_path.Goals as goal
 
 pub returns : goal.returns
