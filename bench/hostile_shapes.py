@@ -177,6 +177,11 @@ def deep_local_uses(count, depth):
     return deep_body(depth, declared + name(b"^NEAR") + b"^NEAR" * count)
 
 
+def deep_root_uses(count, depth):
+    """Uses of a name at the root that the method declares, which may begin as its scope does."""
+    return deep_body(depth, name(b"\\NEAR") + b"\\NEAR" * count)
+
+
 def field(count):
     """A Field of so many units."""
     return package(b"\x5b\x81", LEAF + b"\0" + each(count, lambda it: it + b"\x08"))
@@ -423,6 +428,7 @@ SHAPES = (
     Shape("deep-owners-run", 5_000, "devices", one(lambda count: deep_owners(count, DEEP, SEGMENTS)), any_run=True),
     Shape("deep-outside", 2_000, "names", one(lambda count: regions_of_nothing(count // 2, 10_000))),
     *both("deep-local-uses", deep_local_uses, 20_000, "names", 10_000),
+    *both("deep-root-uses", deep_root_uses, 100_000, "names", 10_000),
     Shape("locals", 1_000_000, "names", one(NAMED["locals"])),
     Shape("package", 1_000_000, "names", one(lambda count: name(b"PKG_", package(b"\x12", b"\0" + uses(count))))),
     Shape("package-body", 1_000_000, "names", one(lambda count: main_method(package(b"\x12", b"\0" + uses(count))))),

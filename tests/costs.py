@@ -26,10 +26,11 @@ LEAST_WRITE = 32_768
 MOST_FREED = 100
 # A run touches few pages that a program doesn't touch which only says its version. 128 are the large window of the rows.
 MOST_FAULTS = 80
-# Seconds of processor time, several times what each takes, and less than without the order of segments (14 for the first).
+# Seconds of processor time, several times what each takes, and less than without the steps upward (14 for the first).
 SHAPES = {
     "names used below 13,000 levels with another child": (lambda: shapes.upward_crowded(80_000, 13_000), 4),
     "uses of a name that is declared before each level": (lambda: shapes.upward_turning(100_000, 500), 4),
+    "names from the root on that a deep body declares": (lambda: shapes.deep_root_uses(400_000, 13_000), 2),
 }
 # Shapes of bench/hostile_shapes.py, each with the bytes of memory that a byte of it may take beside those of each run.
 BOUNDED = {
