@@ -19,9 +19,8 @@ use Rattle.aml_namespace.specs.Known.{BodyView, Known, StandsFor, outlook_in}
 use Rattle.aml_namespace.specs.Namespace.{Entry}
 use Rattle.aml_namespace.specs.Runs.{Outlook, outlook_of, agreed_arity}
 use Rattle.aml_namespace.proofs.Stands.{same_outlook}
-use Rattle.aml_set.specs.declared.methods.Method.{Method}
+use Rattle.aml_set.specs.Methods.{Method, span_of}
 use Rattle.aml_set.specs.Code.{AreShort}
-use Rattle.aml_set.specs.Views.{span_of}
 use Rattle.aml_load.specs.Views.{IsBody, IsUnread, IsReading, GivesBody}
 
 short_at : (cs : List (List ℕ)) (n : ℕ) → AreShort cs → length (slice_index_or cs n []) ≤ 16777216

@@ -27,9 +27,11 @@ use Rattle.aml_namespace.proofs.Numbers.{scopes_grown, still_at}
 use Rattle.aml_namespace.proofs.Stands.{stands_grown, stands_inside}
 use Rattle.aml_load.specs.declared.faults.LoadFault.{LoadFault}
 use Rattle.aml_load.specs.declared.faults.LoadFault.TheVariants as loads
-use Rattle.aml_set.specs.declared.methods.Method.{Method}
-use Rattle.aml_set.specs.Numbers.{AreNumbered}
-use Rattle.aml_set.proofs.Numbers.{one_numbered, still_numbered}
+use Rattle.std.proofs.lemmas.Option.{slice_get_within, get_or_from_slice_get}
+use Rattle.aml_namespace.specs.Known.{path_at}
+use Rattle.aml_set.specs.declared.methods.Method.{Method as Kept}
+use Rattle.aml_set.specs.Methods.{Method, method_in, methods_in, AreNumbered}
+use Rattle.aml_set.proofs.MethodLaws.{one_method, one_numbered, same_methods, still_numbered}
 use Rattle.aml_load.specs.declared.walking.Progress.{Progress}
 use Rattle.aml_load.specs.Declaring.{◌>>=◌, Listed, plus, with_uses, term_uses, place_at, entry_at, new_at, units_at}
 use Rattle.aml_load.specs.Declaring.{declare_as, declare, declare_inside}
@@ -55,41 +57,46 @@ grouped_as : (old new : Progress) → KeepsUses old new → AreIn old.space.scop
 grouped_as old new keeps grouped = subst (λ scopes. AreIn scopes new.uses) (sym keeps.scopes)
     (subst (AreIn old.space.scopes) (sym keeps.uses) grouped)
 
--- the methods' paths have their numbers as they had
-numbered_as : (old new : Progress) → AreNumbered old.space old.methods.items old.numbers.items
-    → KeepsPaths old.space new.space → new.numbers.items ≡ old.numbers.items
-    → new.methods.items ≡ old.methods.items → AreNumbered new.space new.methods.items new.numbers.items
-numbered_as old new all keeps ids ms =
-    subst (AreNumbered new.space new.methods.items) (sym ids) (subst (λ ms. AreNumbered new.space ms old.numbers.items) (sym ms)
-    (still_numbered old.space new.space old.methods.items old.numbers.items keeps all))
+-- the methods have their paths, and these their numbers, as they had
+module _ (old new : Progress) (all : AreNumbered old.space old.methods.items) (keeps : KeepsPaths old.space new.space)
+    (ms : new.methods.items ≡ old.methods.items) where
+  numbered_as : AreNumbered new.space new.methods.items
+  numbered_as = subst (AreNumbered new.space) (sym ms) (still_numbered old.space new.space keeps old.methods.items all)
+
+  methods_as : methods_in new.space new.methods.items ≡ methods_in old.space old.methods.items
+  methods_as = ap (methods_in new.space) ms ∙ same_methods old.space new.space keeps old.methods.items all
 
 -- an entry without a body
 pub plain_held : (old new : Progress) (l : Listed) (x : Entry) → methods_of (x ∷ []) ≡ [] → Holds old l
     → StandsFor new.space (l.entries ++ x ∷ [])
-    → new.methods.items ≡ old.methods.items → KeepsUses old new → new.numbers.items ≡ old.numbers.items
-    → KeepsPaths old.space new.space → Holds new (plus l x)
-plain_held old new l x none h s ms keeps ids paths = record {
-  numbered = numbered_as old new h.numbered paths ids ms;
+    → new.methods.items ≡ old.methods.items → KeepsUses old new → KeepsPaths old.space new.space → Holds new (plus l x)
+plain_held old new l x none h s ms keeps paths = record {
+  numbered = numbered_as old new h.numbered paths ms;
   space = s;
-  methods = ms ∙ h.methods ∙ sym (methods_more l.entries x ∙ ap (λ zs. methods_of l.entries ++ zs) none ∙ append-nil (methods_of l.entries));
+  methods = methods_as old new h.numbered paths ms ∙ h.methods
+      ∙ sym (methods_more l.entries x ∙ ap (λ zs. methods_of l.entries ++ zs) none ∙ append-nil (methods_of l.entries));
   uses = ap (λ (us : Groups). uses_of us.list.items) keeps.uses ∙ h.uses;
   grouped = grouped_as old new keeps h.grouped;
 }
 
-pub method_held : (old new : Progress) (l : Listed) (p : List Seg) (k : Kind) (b : Body) (sure : Bool) (m : Method)
-    (id : ℕ) → Holds old l
-    → StandsFor new.space (l.entries ++ declares p k (Some b) sure ∷ [])
-    → new.methods.items ≡ old.methods.items ++ m ∷ []
-    → m ≡ record { path = p; table = b.table; start = b.start; len = b.len; flags = b.flags } → KeepsUses old new
-    → new.numbers.items ≡ old.numbers.items ++ id ∷ [] → KeepsPaths old.space new.space → StandsAt new.space id p
-    → Holds new (plus l (declares p k (Some b) sure))
-method_held old new l p k b sure m id h s ms is keeps ids paths at = record {
-  numbered = subst (AreNumbered new.space new.methods.items) (sym ids) (subst (λ ms. AreNumbered new.space ms (old.numbers.items ++ id ∷ [])) (sym ms)
-      (one_numbered new.space old.methods.items old.numbers.items m id (subst (λ (x : Method). StandsAt new.space id x.path) (sym is) at)
-      (still_numbered old.space new.space old.methods.items old.numbers.items paths h.numbered)));
+pub method_held : (old new : Progress) (l : Listed) (p : List Seg) (k : Kind) (b : Body) (sure : Bool) (m : Kept)
+    → Holds old l → StandsFor new.space (l.entries ++ declares p k (Some b) sure ∷ [])
+    → new.methods.items ≡ old.methods.items ++ m ∷ [] → StandsAt new.space m.path p
+    → method_in new.space m ≡ record { path = path_at new.space m.path; table = b.table; start = b.start; len = b.len; flags = b.flags }
+    → KeepsUses old new → KeepsPaths old.space new.space → Holds new (plus l (declares p k (Some b) sure))
+method_held old new l p k b sure m h s ms at is keeps paths = record {
+  numbered = subst (AreNumbered new.space) (sym ms) (one_numbered new.space old.methods.items m (slice_get_within new.space.paths m.path p at)
+      (still_numbered old.space new.space paths old.methods.items h.numbered));
   space = s;
-  methods = ms ∙ ap (λ xs. xs ++ m ∷ []) h.methods ∙ ap (λ (x : Method). methods_of l.entries ++ x ∷ []) is
-      ∙ sym (methods_more l.entries (declares p k (Some b) sure));
+  methods = ap (methods_in new.space) ms ∙ one_method new.space old.methods.items m
+      ∙ ap (λ xs. xs ++ method_in new.space m ∷ []) (same_methods old.space new.space paths old.methods.items h.numbered ∙ h.methods)
+      ∙ ap (λ (x : Method). methods_of l.entries ++ x ∷ []) (is ∙ λ i. record {
+        path = get_or_from_slice_get new.space.paths m.path p [] at i;
+        table = b.table;
+        start = b.start;
+        len = b.len;
+        flags = b.flags;
+      }) ∙ sym (methods_more l.entries (declares p k (Some b) sure));
   uses = ap (λ (us : Groups). uses_of us.list.items) keeps.uses ∙ h.uses;
   grouped = grouped_as old new keeps h.grouped;
 }
@@ -97,11 +104,11 @@ method_held old new l p k b sure m id h s ms is keeps ids paths at = record {
 -- a scope more is open
 pub inside_held : (old new : Progress) (l : Listed) (scope : List Seg)
     → Grows (with_scopes old.space (old.space.scopes ++ scope ∷ [])) new.space → new.methods.items ≡ old.methods.items
-    → new.numbers.items ≡ old.numbers.items → new.uses ≡ old.uses → Holds old l → Holds new l
-inside_held old new l scope grows ms ids us h = record {
-  numbered = numbered_as old new h.numbered (λ id p. still_at _ _ id p grows) ids ms;
+    → new.uses ≡ old.uses → Holds old l → Holds new l
+inside_held old new l scope grows ms us h = record {
+  numbered = numbered_as old new h.numbered (λ id p. still_at _ _ id p grows) ms;
   space = stands_grown _ _ l.entries grows (stands_inside old.space (old.space.scopes ++ scope ∷ []) l.entries h.space);
-  methods = ms ∙ h.methods;
+  methods = methods_as old new h.numbered (λ id p. still_at _ _ id p grows) ms ∙ h.methods;
   uses = ap (λ (us : Groups). uses_of us.list.items) us ∙ h.uses;
   grouped = open_inside old.space.scopes new.space.scopes scope new.uses (scopes_grown _ _ grows)
       (subst (AreIn old.space.scopes) (sym us) h.grouped);
@@ -109,13 +116,12 @@ inside_held old new l scope grows ms ids us h = record {
 
 -- the names of a term more
 pub uses_held : (old new : Progress) (l : Listed) (site : Where) (x : Tree) → Holds old l → new.space ≡ old.space
-    → new.methods.items ≡ old.methods.items → new.numbers.items ≡ old.numbers.items
-    → uses_of new.uses.list.items ≡ uses_of old.uses.list.items ++ term_uses site x
+    → new.methods.items ≡ old.methods.items → uses_of new.uses.list.items ≡ uses_of old.uses.list.items ++ term_uses site x
     → AreIn new.space.scopes new.uses → Holds new (with_uses site l x)
-uses_held old new l site x h s ms ids us grouped = record {
-  numbered = numbered_as old new h.numbered (λ id p. subst (λ k. StandsAt k id p) (sym s)) ids ms;
+uses_held old new l site x h s ms us grouped = record {
+  numbered = numbered_as old new h.numbered (λ id p. subst (λ k. StandsAt k id p) (sym s)) ms;
   space = subst (λ k. StandsFor k l.entries) (sym s) h.space;
-  methods = ms ∙ h.methods;
+  methods = methods_as old new h.numbered (λ id p. subst (λ k. StandsAt k id p) (sym s)) ms ∙ h.methods;
   uses = us ∙ ap (λ us. us ++ term_uses site x) h.uses;
   grouped = grouped;
 }
@@ -186,5 +192,5 @@ pub declared_walked : (old new : Progress) (l : Listed) (site : Where) (p : List
     → Holds old l → IsDeclared site l.entries p (declares p kind None sure) old new r
     → Walked new r (entry_at site l p (declares p kind None sure))
 declared_walked old new l site p kind sure (Ok u) h d =
-    let x = declares p kind None sure in (plus l x, plain_held old new l x refl h d.1 d.2 d.3 d.4 d.5, entry_free site l p x d.0)
+    let x = declares p kind None sure in (plus l x, plain_held old new l x refl h d.1 d.2 d.3 d.4, entry_free site l p x d.0)
 declared_walked old new l site p kind sure (Err e) h d = entry_taken site l p (declares p kind None sure) e d

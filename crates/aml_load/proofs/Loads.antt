@@ -26,7 +26,6 @@ use Rattle.aml_namespace.specs.Namespace.{Entry, Givens}
 use Rattle.aml_set.specs.Code.{IsCode, AreCodes, AreShort}
 use Rattle.aml_set.specs.Views.{codes_view}
 use Rattle.aml_set.specs.declared.loaded.Loaded.{Loaded}
-use Rattle.aml_set.specs.declared.methods.Method.{Method}
 use Rattle.aml_load.specs.declared.faults.LoadFault.{LoadFault}
 use Rattle.aml_load.specs.declared.faults.LoadFault.TheVariants as loads
 use Rattle.aml_load.specs.Declaring.{◌>>=◌, Listed, Use, first_listed, strict, declare_all, use_count, call_fault}
@@ -266,15 +265,14 @@ module _ (any z : Bool) (gs : Givens) (cs : List (List ℕ)) where
     given_sound (Ok x) fits g = (g.0, g.1.entries, subst LoadTells g.3 (loads_forward (fit_so x fits)), g.2)
     given_sound (Err e) fits g = tt
 
-    pub given_few : (methods : X → List Method)
-        → ((x : X) (trees : List Trees) (es : List Entry) → HoldsIt x cs trees es → methods x ≡ methods_of es)
-        → (r : Result X LoadFault) → Fit r → GivesBy HoldsIt any z gs r cs
-        → IfOk r (λ x. length (methods x) ≤ most_methods)
+    pub given_few : (count : X → ℕ)
+        → ((x : X) (trees : List Trees) (es : List Entry) → HoldsIt x cs trees es → count x ≡ length (methods_of es))
+        → (r : Result X LoadFault) → Fit r → GivesBy HoldsIt any z gs r cs → IfOk r (λ x. count x ≤ most_methods)
     unfolding given_sound
-    given_few methods held (Ok x) fits g =
+    given_few count held (Ok x) fits g =
         let load = (given_sound (Ok x) fits g).2 in
-        subst (λ ms. length ms ≤ most_methods) (sym (held x g.0 g.1.entries g.2)) load.few
-    given_few methods held (Err e) fits g = tt
+        subst (λ n. n ≤ most_methods) (sym (held x g.0 g.1.entries g.2)) load.few
+    given_few count held (Err e) fits g = tt
 
     pub given_one : (r : Result X LoadFault) → GivesBy HoldsIt any z gs r cs
         → IfOk r (λ x. (trees : List Trees) (es : List Entry) → LoadsTo any z gs cs trees es → HoldsIt x cs trees es)

@@ -20,7 +20,7 @@ use Rattle.aml_code.specs.declared.rows.Group.{Group}
 use Rattle.aml_code.specs.declared.rows.Object.{Object}
 use Rattle.aml_code.specs.Opcodes.{row_of}
 use Rattle.aml_namespace.specs.declared.kinds.Kind.{Kind}
-use Rattle.aml_set.specs.declared.methods.Method.{Method}
+use Rattle.aml_set.specs.Methods.{Method}
 use Rattle.std.specs.FinSet as set
 use Rattle.aml_code.specs.declared.rows.Position.TheVariants as positions
 use Rattle.aml_code.specs.declared.rows.Role.TheVariants as roles

@@ -3,7 +3,7 @@ use Rattle.std.specs.Prelude.{◌≡◌, ℕ, suc, List, [], ◌∷◌, ◌++◌
 use Rattle.aml_code.specs.Tree.{Tree, nothing, named, op, Trees, no_trees, tree_more, Part, child, Parts, no_parts}
 use Rattle.aml_code.specs.Tree.{part_more, Tail, terms, elements, fields, body, Field, connection, Fields, no_fields}
 use Rattle.aml_code.specs.Tree.{field_more, Link, target, buffer}
-use Rattle.aml_set.specs.declared.methods.Method.{Method}
+use Rattle.aml_set.specs.Methods.{Method}
 use Rattle.aml_namespace.specs.Namespace.{Entry}
 use Rattle.aml_load.specs.Loading.{methods_of}
 

@@ -4,9 +4,9 @@ use Rattle.std.specs.Prelude.{Result, Ok, Err}
 use Rattle.aml_code.specs.Tree.{Trees, slice_of}
 use Rattle.aml_namespace.specs.Known.{Known, StandsFor}
 use Rattle.aml_set.specs.declared.loaded.Loaded.{Loaded}
-use Rattle.aml_set.specs.declared.methods.Method.{Method}
+use Rattle.aml_set.specs.Methods.{Method, methods_in, span_of}
 use Rattle.aml_set.specs.declared.tables.TableSet.{TableSet}
-use Rattle.aml_set.specs.Views.{codes_view, trees_view, span_of, table_codes, table_terms}
+use Rattle.aml_set.specs.Views.{codes_view, trees_view, methods_of_set, table_codes, table_terms}
 use Rattle.aml_load.specs.Loading.{methods_of}
 use Rattle.aml_names.specs.declared.faults.CodeFault.{CodeFault}
 use Rattle.aml_names.specs.declared.faults.CodeFault.TheVariants as codes
@@ -23,14 +23,14 @@ pub record HoldsLoad (x : Loaded) (codes : List (List ℕ)) (ts : List Trees) (e
   pub tables : codes_view x.tables.items ≡ codes
   pub trees : trees_view x.trees.items ≡ ts
   pub space : StandsFor x.space es
-  pub methods : x.methods.items ≡ methods_of es
+  pub methods : methods_in x.space x.methods.items ≡ methods_of es
 
 -- Those of a set of tables in one list are.
 pub record HoldsTables (x : TableSet) (codes : List (List ℕ)) (ts : List Trees) (es : List Entry) : Type 0 where
   pub tables : table_codes x.tables.items ≡ codes
   pub trees : table_terms x.tables.items ≡ ts
   pub space : StandsFor x.space es
-  pub methods : x.methods.items ≡ methods_of es
+  pub methods : methods_of_set x ≡ methods_of es
 
 -- ---- The bodies of methods, each read in the namespace of all entries (ACPI 6.5, 5.3 and 20.2.5).
 

@@ -18,7 +18,7 @@ use Rattle.aml_load.specs.Groups.{AreIn, uses_of}
 use Rattle.aml_load.specs.Tables.{Fails}
 use Rattle.aml_code.specs.Tree.{Trees}
 use Rattle.aml_set.specs.declared.tables.Table.{Table}
-use Rattle.aml_set.specs.Numbers.{AreNumbered}
+use Rattle.aml_set.specs.Methods.{methods_in, AreNumbered}
 use Rattle.aml_set.specs.Views.{table_dumps, table_codes, table_terms}
 
 -- where a site is
@@ -44,8 +44,7 @@ KeepsPaths old new = (id : ℕ) (p : List Seg) → StandsAt old id p → StandsA
 -- that it may not be added, or want of memory.
 abbrev pub IsDeclared : Where → List Entry → List Seg → Entry → Progress → Progress → Result (Unit {0}) LoadFault → Type 0
 IsDeclared site es p x old new (Ok u) = IsFree site es p (Ok u) × StandsFor new.space (es ++ x ∷ [])
-    × (new.methods.items ≡ old.methods.items) × KeepsUses old new
-    × (new.numbers.items ≡ old.numbers.items) × KeepsPaths old.space new.space
+    × (new.methods.items ≡ old.methods.items) × KeepsUses old new × KeepsPaths old.space new.space
 IsDeclared site es p x old new (Err e) = IsFree site es p (Err e)
 
 -- the path of which an Alias is declared
@@ -57,12 +56,12 @@ source_paths (Some s) = s.path.now ∷ []
 abbrev pub sure_of : Where → List Entry → List Seg → Option Source → Bool
 sure_of site es p source = sure_with site es (parent_of p ∷ source_paths source)
 
--- the namespace, the methods and the uses so far are those of what is listed, the methods' paths have their numbers,
--- and the uses are grouped
+-- the namespace, the methods and the uses so far are those of what is listed, the methods' paths have numbers, and the
+-- uses are grouped
 pub record Holds (p : Progress) (l : Listed) : Type 0 where
   pub space : StandsFor p.space l.entries
-  pub methods : p.methods.items ≡ methods_of l.entries
-  pub numbered : AreNumbered p.space p.methods.items p.numbers.items
+  pub methods : methods_in p.space p.methods.items ≡ methods_of l.entries
+  pub numbered : AreNumbered p.space p.methods.items
   pub uses : uses_of p.uses.list.items ≡ l.uses
   pub grouped : AreIn p.space.scopes p.uses
 

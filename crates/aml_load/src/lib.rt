@@ -18,7 +18,7 @@ mod used;
 mod uses;
 mod walking;
 
-pub use bodies::{read_body, read_numbered, read_span, tell_numbered};
+pub use bodies::{read_body, read_span, tell_span};
 pub use faults::LoadFault;
 pub use laws::{loads_forward, loads_in_text_order, loads_one_way, loads_strictly};
 pub use loading::{load, load_any_run, load_tables};

@@ -204,7 +204,6 @@ pub fn first_progress(alloc: Global, givens: &[(Path, ArgumentCount)]) -> Result
         alloc,
         space: space_with(alloc, givens)?,
         methods: Vec::new(alloc),
-        numbers: Vec::new(alloc),
         uses: Groups::new(alloc),
     })
 }
@@ -234,7 +233,6 @@ fn load_each<'a>(
         tables,
         space: progress.space,
         methods: progress.methods,
-        numbers: progress.numbers,
     })
 }
 

@@ -25,7 +25,7 @@ use crate::uses::{Site, add_names};
 use aml_code::{Field, Name, NoMemory, Node, Part, Role, Seg, Tail, last_byte, last_name};
 use aml_names::{Path, ScopedPath, front_of};
 use aml_set::Method;
-use aml_space::{Kind, Near, PathId, PlacedPath, Source, Space, SpaceFault, Target};
+use aml_space::{Kind, Near, PlacedPath, Source, Space, SpaceFault, Target};
 use std::alloc::Global;
 
 /// The most methods that a set of tables may have.
@@ -37,8 +37,6 @@ pub struct Progress {
     pub alloc: Global,
     pub space: Space,
     pub methods: Vec<Method>,
-    /// The number in the space of each method's path.
-    pub numbers: Vec<PathId>,
     pub uses: Groups,
 }
 
@@ -298,28 +296,26 @@ impl Progress {
     fn declare_body(
         &mut self,
         site: &Site<'_>,
-        path: PlacedPath,
+        path: &PlacedPath,
         flags: u8,
         start: u32,
         len: u32,
     ) -> Result<(), LoadFault>
         requires inside { IsInside self.old site.now }
-        requires below { IsBelow path.front site.now.scope.now path.path }
-        ensures walks { Walks self.old self.new result (λ l. entry_at (at_site site.now) l path.path
-            (method_entry (at_site site.now) l.entries flags (start, len) path.path)) }
+        requires below { IsBelow path.now.front site.now.scope.now path.now.path }
+        ensures walks { Walks self.old self.new result (λ l. entry_at (at_site site.now) l path.now.path
+            (method_entry (at_site site.now) l.entries flags (start, len) path.now.path)) }
         ensures stays { OnOk result (Stays self.old self.new) }
     {
-        self.declare_path(site, &path, Kind::Method { args: flags % 8 }, None)?;
-        let id = self
-            .space
-            .number(path.near(site.place), &path.path.parts())?;
-        self.numbers.push(id)?;
+        self.declare_path(site, path, Kind::Method { args: flags % 8 }, None)?;
+        let near = path.near(site.place);
+        let number = self.space.number(near, &path.path.parts())?;
         self.methods.push(Method {
-            path: path.path,
-            table: site.table,
+            path: number,
+            flags,
             start,
             len,
-            flags,
+            table: site.table,
         })?;
         Ok(())
     }
@@ -370,7 +366,7 @@ impl Progress {
     {
         let path = self.own_path(site, last_name(parts))?;
         let (start, len) = body_span(tail);
-        self.declare_body(site, path, byte_in(parts), start, len)
+        self.declare_body(site, &path, byte_in(parts), start, len)
     }
 }
 

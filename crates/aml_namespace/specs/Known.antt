@@ -190,6 +190,10 @@ of_paths k = with_paths (with_scopes k []) []
 abbrev pub StandsAt : Known → ℕ → List Seg → Type 0
 StandsAt k id p = slice_get k.paths id ≡ Some p
 
+-- the path of a number; the root where no path has it
+abbrev pub path_at : Known → ℕ → List Seg
+path_at k id = get_or k.paths id []
+
 -- what is known, and maybe paths with numbers more
 abbrev pub Grows : Known → Known → Type 0
 Grows old new = (more : List (List Seg)) × (new ≡ with_paths old (old.paths ++ more))

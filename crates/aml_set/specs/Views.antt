@@ -7,6 +7,8 @@ use Rattle.aml_code.specs.Tree.{Trees, slice_of, encodings}
 use Rattle.aml_code.specs.View.{nodes_view}
 use Rattle.aml_set.specs.declared.loaded.Loaded.{Loaded}
 use Rattle.aml_set.specs.declared.methods.Method.{Method}
+use Rattle.aml_set.specs.Methods.{methods_in}
+use Rattle.aml_set.specs.Methods.{Method as Declared}
 use Rattle.aml_set.specs.declared.tables.Table.{Table}
 use Rattle.aml_set.specs.declared.tables.TableSet.{TableSet}
 
@@ -16,13 +18,9 @@ codes_view codes = map (λ c. c.now) codes
 abbrev pub trees_view : List (Vec Node) → List Trees
 trees_view ts = map (λ t. nodes_view t.items) ts
 
--- the bytes of a method's body
-abbrev pub span_of : List (List ℕ) → Method → List ℕ
-span_of tables m = slice_of (slice_index_or tables m.table []) m.start m.len
-
 abbrev pub body_in : List (List ℕ) → Option Method → List ℕ
 body_in tables None = []
-body_in tables (Some m) = span_of tables m
+body_in tables (Some m) = slice_of (slice_index_or tables m.table []) m.start m.len
 
 -- the bytes of the body of the method with this number
 abbrev pub body_of : Loaded → ℕ → List ℕ
@@ -42,6 +40,9 @@ table_terms ts = map (λ t. nodes_view t.terms.items) ts
 -- the bytes of the body of the method with this number
 abbrev pub body_in_set : TableSet → ℕ → List ℕ
 body_in_set x number = body_in (table_codes x.tables.items) (slice_get x.methods.items number)
+
+abbrev pub methods_of_set : TableSet → List Declared
+methods_of_set x = methods_in x.space x.methods.items
 
 -- the same tables, with their AML and their terms in lists of their own
 pub record IsListed (x : Loaded) (set : TableSet) : Type 0 where

@@ -1,6 +1,7 @@
 //! A loaded set of tables, and the bytes in it.
-ghost use Rattle.std.specs.Prelude.{◌≡◌, IfOk};
-ghost use Rattle.aml_set.specs.Views.{span_of, body_of, codes_view, table_encoding};
+ghost use Rattle.std.specs.Prelude.{◌≡◌, [], slice_index_or, IfOk};
+ghost use Rattle.aml_code.specs.Tree.{slice_of};
+ghost use Rattle.aml_set.specs.Views.{body_of, codes_view, table_encoding};
 
 use crate::methods::Method;
 use crate::tables::TableSet;
@@ -23,7 +24,8 @@ pub struct Loaded<'a> {
 
 /// The bytes of the body of a method, by the AML of each table in load order.
 pub fn span_of<'a>(tables: &[&'a [u8]], method: &Method) -> &'a [u8]
-    ensures { result.now ≡ span_of (codes_view tables.now) method.now }
+    ensures { let m = method.now in
+        result.now ≡ slice_of (slice_index_or (codes_view tables.now) m.table []) m.start m.len }
 {
     match tables.get(method.table) {
         None => &[],

@@ -1,11 +1,10 @@
 //! A set of tables that were loaded as one, each with its AML and its terms.
 ghost use Rattle.std.specs.Prelude.{◌≡◌, ◌≤◌, length};
 ghost use Rattle.aml_set.specs.Code.{IsCode};
-ghost use Rattle.aml_set.specs.Numbers.{AreNumbered};
 
 use crate::methods::Method;
 use aml_code::{Node, slice};
-use aml_space::{PathId, Space};
+use aml_space::Space;
 use std::alloc::Global;
 
 /// A table of a set: its AML, and the terms that it reads as.
@@ -47,17 +46,17 @@ pub struct TableSet<'a> {
     pub space: Space,
     /// The methods of all tables, in load order and in the order of the text. Their numbers begin at 0.
     pub methods: Vec<Method>,
-    /// The number in the space of each method's path.
-    pub numbers: Vec<PathId>,
-    pub ghost numbered: { AreNumbered space methods.items numbers.items },
 }
 
 impl<'a> TableSet<'a> {
-    ghost use Rattle.aml_set.specs.Views.{span_of, table_codes};
+    ghost use Rattle.std.specs.Prelude.{[], slice_index_or};
+    ghost use Rattle.aml_code.specs.Tree.{slice_of};
+    ghost use Rattle.aml_set.specs.Views.{table_codes};
 
     /// The bytes of the body of a method.
     pub fn span(&self, method: &Method) -> &'a [u8]
-        ensures bytes { result.now ≡ span_of (table_codes self.now.tables.items) method.now }
+        ensures bytes { let m = method.now in
+            result.now ≡ slice_of (slice_index_or (table_codes self.now.tables.items) m.table []) m.start m.len }
         ensures short { length result.now ≤ 16777216 }
     {
         match self.tables.get(method.table) {

@@ -1,7 +1,7 @@
 -- Scopes that were opened lead to their nodes also where paths keep theirs (`kept_opened`), as they do where other
 -- content comes to a node (`content_kept`), and by one step behind another (`kept_on`); and so does one more
 -- (`more_opened`), and the root (`root_opened`). Numbers stand for the same paths then (`known_again`); a path's is its
--- node's (`numbered`, `id_path`). The node of what an Alias stands for is told by its source (`aim_kept`, `aim_here`).
+-- node's (`numbered`). The node of what an Alias stands for is told by its source (`aim_kept`, `aim_here`).
 use Rattle.std.specs.Prelude.{slice_get}
 use Rattle.std.specs.FinMap as map
 use Rattle.std.proofs.Common.{◌≡◌, ℕ, zero, suc, List, [], ◌∷◌, ◌++◌, Option, Some, None, IfSome, refl, sym, ap, subst, ◌∙◌}
@@ -17,7 +17,7 @@ use Rattle.aml_space.specs.declared.nodes.Node.{Node}
 use Rattle.aml_space.specs.declared.opened.Opened.{Opened}
 use Rattle.aml_children.specs.Numbered.{walk}
 use Rattle.std.specs.Option.{option_or, option_and_then, unwrap_or}
-use Rattle.std.proofs.lemmas.Option.{slice_get_read, slice_get_within, get_or_from_slice_get}
+use Rattle.std.proofs.lemmas.Option.{slice_get_read}
 use Rattle.aml_namespace.specs.declared.kinds.Kind.{Kind}
 use Rattle.aml_namespace.specs.declared.kinds.Kind.TheVariants.{Alias}
 use Rattle.aml_namespace.specs.Namespace.{kind_at}
@@ -98,16 +98,6 @@ numbered ns is path at led =
     let within = node_range is.shape path at led in
     slice_get_read (paths_in ns) (length ns) at path (sym (length-map-range_with_len (path_of ns) 0 (length ns))) within
     (sym (get_or-map-range_with_len (path_of ns) 0 (length ns) at at path within (omega arith) ∙ path_led ns is path at led))
-
--- and no other does
-pub id_within : (ns : List Node) (id : ℕ) → id < length (paths_in ns) → id < length ns
-id_within ns id known = omega (arith, known, length-map-range_with_len (path_of ns) 0 (length ns))
-
-pub id_path : (ns : List Node) (id : ℕ) (path : List Seg) → slice_get (paths_in ns) id ≡ Some path → path_of ns id ≡ path
-id_path ns id path at =
-    let within = id_within ns id (slice_get_within (paths_in ns) id path at) in
-    sym (get_or-map-range_with_len (path_of ns) 0 (length ns) id id path within (omega arith))
-    ∙ get_or_from_slice_get (paths_in ns) id path path at
 
 -- one scope more is open
 pub more_scopes : (opened more : List Opened) (o : Opened) → more ≡ opened ++ o ∷ []

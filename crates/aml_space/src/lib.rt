@@ -26,7 +26,7 @@ pub use aml_namespace::{
 };
 pub use bodies::{BodyNames, BodyScope};
 pub use faults::SpaceFault;
-pub use ids::PathId;
+pub use ids::{PathId, SpacePath};
 pub use listing::Rows;
 pub use opened::{Near, PlacedPath, Source, is_long};
 pub use rows::Row;

@@ -3,13 +3,12 @@ ghost use Rattle.std.specs.Prelude.{◌≡◌, ◌<◌, ◌≤◌, ◌*◌, leng
 ghost use Rattle.std.specs.Prelude.{is_some, not, cond, take, Ok};
 ghost use Rattle.std.specs.Prelude.{map as map_list, ◌⊎◌, OnOk, OnErr, IfOk, IfErr, IfSome, IsTrue};
 ghost use Rattle.std.specs.Option.{option_copied};
-ghost use Rattle.aml_names.specs.declared.segments.Seg.{Seg as AnySeg};
 ghost use Rattle.std.specs.FinMap as map;
 ghost use Rattle.aml_namespace.specs.Namespace.{Entry, Body, declares, external as outside, given as said};
 ghost use Rattle.aml_namespace.specs.Namespace.{kind_at, count_at, namespace_of, declared_at};
 ghost use Rattle.aml_namespace.specs.Runs.{outlook_of, sure_at, scope_in, open_in};
 ghost use Rattle.aml_space.specs.Nodes.{known_by};
-ghost use Rattle.aml_namespace.specs.Known.{Grows, StandsAt, with_scopes, of_paths};
+ghost use Rattle.aml_namespace.specs.Known.{Grows, StandsAt, path_at, with_scopes, of_paths};
 ghost use Rattle.aml_space.specs.Near.{IsNear, IsSourceOf};
 ghost use Rattle.aml_space.specs.Candidates.{path_in, names_of, outlook_at, IsScope};
 ghost use Rattle.aml_namespace.specs.Known.{StandsFor, nothing_known, once, with_declaration, with_declared};
@@ -20,7 +19,7 @@ ghost use Rattle.aml_namespace.specs.Known.{is_declared as declared_yet, namespa
 use crate::counting::{count_of, open_met, scope_met, sure_met};
 use crate::faults::SpaceFault;
 use crate::growing::{Reach, declare_again, declare_first, extend, is_taken, set_given, set_out};
-use crate::ids::PathId;
+use crate::ids::{PathId, SpacePath};
 use crate::listing::{Rows, list_rows};
 use crate::nodes::Node;
 use crate::opened::{
@@ -332,6 +331,14 @@ impl Space {
         Ok(PathId::new(node))
     }
 
+    /// The path of a number; the root where no path has it.
+    pub fn path(&self, id: PathId) -> SpacePath<'_>
+        ensures { result ≡ path_at self.now id }
+    {
+        let nodes = self.nodes.as_slice();
+        SpacePath::new(nodes, id.node(nodes))
+    }
+
     /// Keeps the ways up from all nodes, where searches may go far up, so that names cost the levels alone that have
     /// such a child. What is known stays the same, also where memory is refused.
     pub fn settle(&mut self) -> Result<(), NoMemory>
@@ -509,15 +516,14 @@ impl Space {
         Scope::new(nodes, &self.ways, &self.predefined, path, reach)
     }
 
-    /// The path that has a number, as a scope.
+    /// The path of a number, as a scope.
     pub(crate) fn scope_at(&self, id: PathId) -> Scope<'_>
-        requires { id < length self.now.paths }
         ensures scope { IsScope result }
         ensures known { known_by result.nodes.now ≡ of_paths self.now }
-        ensures path { (path : List AnySeg) → StandsAt self.now id path → path_in result ≡ path }
+        ensures path { path_in result ≡ path_at self.now id }
     {
         let nodes = self.nodes.as_slice();
-        Scope::at(nodes, &self.ways, &self.predefined, id.index())
+        Scope::at(nodes, &self.ways, &self.predefined, id.node(nodes))
     }
 
     /// How many paths are declared.

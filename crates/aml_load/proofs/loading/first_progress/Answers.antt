@@ -1,12 +1,12 @@
-use Rattle.std.proofs.Common.{refl, sym, ◌∙◌}
+use Rattle.std.proofs.Common.{refl, sym}
 use Rattle.aml_load.proofs.Givens.{no_methods}
 use Rattle.aml_load.proofs.loading.first_progress.Goals as goal
 
 pub returns : goal.returns
 returns c = record {
   space = c.in_ok-space_with.ensures.stands;
-  numbered = rw (c.new.ensures.items, c.new-2.ensures.items) refl;
-  methods = c.new.ensures.items ∙ sym (no_methods c.args.givens.now);
-  uses = rw c.new-3.ensures.list refl;
-  grouped = rw c.new-3.ensures.last tt;
+  numbered = rw c.new.ensures.items tt;
+  methods = rw c.new.ensures.items (sym (no_methods c.args.givens.now));
+  uses = rw c.new-2.ensures.list refl;
+  grouped = rw c.new-2.ensures.last tt;
 }

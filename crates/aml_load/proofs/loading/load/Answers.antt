@@ -1,5 +1,6 @@
-use Rattle.std.proofs.Common.{false}
+use Rattle.std.proofs.Common.{false, length, sym, ap, ◌∙◌}
 use Rattle.aml_set.specs.Views.{codes_view}
+use Rattle.aml_set.proofs.MethodLaws.{as_many}
 use Rattle.aml_load.specs.Views.{HoldsLoad}
 use Rattle.aml_load.proofs.Loads.{given_sound, given_few, given_one, given_complete, given_true, given_short}
 use Rattle.aml_load.proofs.loading.load.Goals as goal
@@ -10,7 +11,8 @@ returns-clause-sound c =
 
 pub returns-clause-few : goal.returns-clause-few
 returns-clause-few c =
-    given_few false false c.args.givens.now (codes_view c.args.tables.now) HoldsLoad (λ x. x.methods.items) (λ x trees es h. h.methods) c.load_lists.result c.load_lists.ensures.bytes
+    given_few false false c.args.givens.now (codes_view c.args.tables.now) HoldsLoad (λ x. length x.methods.items)
+    (λ x trees es h. sym (as_many x.space x.methods.items) ∙ ap length h.methods) c.load_lists.result c.load_lists.ensures.bytes
     c.load_lists.ensures.gives
 
 pub returns-clause-one : goal.returns-clause-one

@@ -1,18 +1,12 @@
 use Rattle.std.proofs.Common.{refl, sym, ap, subst, ◌∙◌}
 use Rattle.std.proofs.lemmas.Result.{err_from_is_err_and}
 use Rattle.aml_namespace.specs.Known.{StandsFor}
-use Rattle.aml_set.specs.Numbers.{AreNumbered}
+use Rattle.aml_set.specs.Methods.{methods_in}
 use Rattle.aml_load.specs.Groups.{uses_of}
 use Rattle.aml_load.specs.Declaring.{first_listed}
 use Rattle.aml_set.specs.Views.{table_codes, table_terms}
 use Rattle.aml_load.proofs.Loads.{load_gives, load_refused}
 use Rattle.aml_load.proofs.loading.load_each.Goals as goal
-
-pub invariant_of-result : goal.invariant_of-result
-invariant_of-result c =
-    let read = c.in_ok-read_tables.ensures (first_listed c.args.givens.now) c.in_ok-progress.ensures in
-    let progress = c.read_tables.new.progress in
-    record { numbered = subst (λ k. AreNumbered k progress.methods.items progress.numbers.items) (sym c.settle.ensures) read.2.1.numbered }
 
 pub returns-clause-dumps : goal.returns-clause-dumps
 returns-clause-dumps c = (c.in_ok-read_tables.ensures (first_listed c.args.givens.now) c.in_ok-progress.ensures).0
@@ -27,7 +21,12 @@ returns-clause-gives c =
     let free = c.in_ok-check_uses.ensures m stands in (
       table_terms c.read_tables.new.tables.items,
       m,
-      record { tables = read.1; trees = refl; space = stands; methods = read.2.1.methods },
+      record {
+        tables = read.1;
+        trees = refl;
+        space = stands;
+        methods = ap (λ k. methods_in k c.read_tables.new.progress.methods.items) c.settle.ensures ∙ read.2.1.methods;
+      },
       load_gives c.args.any_run c.args.unknown_zero gs codes (table_terms c.read_tables.new.tables.items) m
           (uses_of c.as_slice.result.now) c.in_ok-check_uses.field-0 read.2.2
           (ap uses_of c.as_slice.ensures.value ∙ read.2.1.uses) free,

@@ -1,6 +1,7 @@
-use Rattle.std.proofs.Common.{inr}
+use Rattle.std.proofs.Common.{inr, length, sym, ap, ◌∙◌}
 use Rattle.aml_set.specs.Views.{table_codes}
 use Rattle.aml_set.proofs.TableLaws.{are_codes}
+use Rattle.aml_set.proofs.MethodLaws.{as_many}
 use Rattle.aml_load.specs.Views.{HoldsTables}
 use Rattle.aml_load.proofs.Loads.{given_sound, given_few, given_one, given_complete, given_true}
 use Rattle.aml_load.proofs.loading.load_tables.Goals as goal
@@ -11,7 +12,8 @@ returns-clause-sound c =
 
 pub returns-clause-few : goal.returns-clause-few
 returns-clause-few c =
-    given_few c.args.any_run c.args.unknown_zero c.args.givens.now (table_codes c.args.tables.items) HoldsTables (λ x. x.methods.items) (λ x trees es h. h.methods) c.load_each.result (inr (are_codes c.args.tables.items))
+    given_few c.args.any_run c.args.unknown_zero c.args.givens.now (table_codes c.args.tables.items) HoldsTables (λ x. length x.methods.items)
+    (λ x trees es h. sym (as_many x.space x.methods.items) ∙ ap length h.methods) c.load_each.result (inr (are_codes c.args.tables.items))
     c.load_each.ensures.gives
 
 pub returns-clause-one : goal.returns-clause-one

@@ -16,6 +16,6 @@ returns-clause-walks c l h = (
       (subst (λ p. StandsFor c.put_external.new.self (l.entries ++ external p c.args.count ∷ [])) c.parts.ensures
       (c.in_ok-put_external.ensures.stands l.entries h.space)) refl
       (record { uses = refl; scopes = scopes_grown _ _ c.in_ok-put_external.ensures.ok })
-      refl (λ id p. still_at _ _ id p c.in_ok-put_external.ensures.ok),
+      (λ id p. still_at _ _ id p c.in_ok-put_external.ensures.ok),
   refl,
 )

@@ -25,5 +25,5 @@ returns-clause-asks c =
     ∙ ap (λ ns. named_in scope ns ++ term_uses (strict s.table scope) x) c.new-names.ensures.items in
     of_both c.add.result (λ l h. c.add.ensures.added old.space.scopes c.requires h.grouped)
     (λ l h. c.add.ensures.open old.space.scopes c.requires h.grouped)
-    (λ l h added grouped. uses_held old _ l (at_site s) x h refl refl refl
+    (λ l h added grouped. uses_held old _ l (at_site s) x h refl refl
     (added ∙ ap (λ us. uses_of old.uses.list.items ++ us) names) grouped)

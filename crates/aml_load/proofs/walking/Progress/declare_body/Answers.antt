@@ -4,6 +4,7 @@ use Rattle.aml_namespace.proofs.Numbers.{scopes_grown, still_at}
 use Rattle.aml_namespace.proofs.Stands.{stands_grown}
 use Rattle.aml_namespace.specs.declared.kinds.Kind.TheVariants as kinds
 use Rattle.aml_space.specs.Near.{IsNear}
+use Rattle.aml_set.specs.declared.methods.Method.{Method as Kept}
 use Rattle.aml_load.specs.Declaring.{plus}
 use Rattle.aml_load.specs.Loading.{sure_here, method_entry}
 use Rattle.aml_load.specs.Walking.{at_site}
@@ -11,13 +12,13 @@ use Rattle.aml_load.proofs.Holding.{method_held, entry_free, entry_taken}
 use Rattle.aml_load.proofs.walking.Progress.declare_body.Goals as goal
 
 pub number-requires : goal.number-requires
-number-requires c = subst (λ scopes. IsNear scopes c.near.result c.parts.result) (sym c.in_ok-declare_path.ensures.stays)
-    (rw c.parts.ensures (c.near.ensures _ _ c.requires.inside c.requires.below))
+number-requires c = subst (λ scopes. IsNear scopes c.near-near.result c.parts.result) (sym c.in_ok-declare_path.ensures.stays)
+    (rw c.parts.ensures (c.near-near.ensures _ _ c.requires.inside c.requires.below))
 
 pub returns-in_err-declare_path-clause-walks : goal.returns-in_err-declare_path-clause-walks
 returns-in_err-declare_path-clause-walks c l h =
     let site = at_site c.args.site.now in
-    let p = c.args.path.path in
+    let p = c.args.path.now.path in
     let b : Body = record { table = site.table; start = c.args.start; len = c.args.len; flags = c.args.flags } in
     let bad = c.in_err-declare_path.ensures.declared l (Some b) h.space in
     let fails = entry_taken site l p (method_entry site l.entries c.args.flags (c.args.start, c.args.len) p) c.in_err-declare_path.field-0.0 bad in
@@ -25,26 +26,25 @@ returns-in_err-declare_path-clause-walks c l h =
 
 pub returns-clause-walks : goal.returns-clause-walks
 returns-clause-walks c l h =
-    let p = c.args.path.path in
+    let p = c.args.path.now.path in
     let site = at_site c.args.site.now in
     let b : Body = record { table = site.table; start = c.args.start; len = c.args.len; flags = c.args.flags } in
     let k = kinds.Method (c.args.flags % 8) in
     let e = method_entry site l.entries c.args.flags (c.args.start, c.args.len) p in
     let d = c.in_ok-declare_path.ensures.declared l (Some b) h.space in
     let more = l.entries ++ e ∷ [] in
-    let grows = c.number.ensures.grows in (
+    let grows = c.number.ensures.grows in
+    let m : Kept = record {
+      path = c.in_ok-number.number;
+      flags = c.args.flags;
+      start = c.args.start;
+      len = c.args.len;
+      table = site.table;
+    } in (
       plus l e,
-      method_held c.args.self.now _ l p k b (sure_here site l.entries p) _ c.in_ok-id.id h (stands_grown _ _ more grows d.1)
-          (c.in_ok-push-2.ensures.items ∙ ap (λ xs. xs ++ record {
-            path = p;
-            table = site.table;
-            start = c.args.start;
-            len = c.args.len;
-            flags = c.args.flags;
-          } ∷ []) d.2) refl
+      method_held c.args.self.now _ l p k b (sure_here site l.entries p) m h (stands_grown _ _ more grows d.1)
+          (c.in_ok-push.ensures.items ∙ ap (λ xs. xs ++ m ∷ []) d.2) (c.in_ok-number.ensures.ok ∙ ap Some c.parts.ensures) refl
           (record { uses = d.3.uses; scopes = scopes_grown _ _ grows ∙ d.3.scopes })
-          (c.in_ok-push.ensures.items ∙ ap (λ ids. ids ++ c.in_ok-id.id ∷ []) d.4)
-          (λ id q at. still_at _ _ id q grows (d.5 id q at))
-          (c.in_ok-id.ensures.ok ∙ ap Some c.parts.ensures),
+          (λ id q at. still_at _ _ id q grows (d.4 id q at)),
       entry_free site l p e d.0,
     )

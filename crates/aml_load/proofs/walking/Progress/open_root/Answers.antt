@@ -8,4 +8,4 @@ enter-requires c = c.root-2.ensures.near _ _
 
 pub returns-clause-holds : goal.returns-clause-holds
 returns-clause-holds c =
-    on_ok_weaker c.enter.result (λ is l h. inside_held c.args.self.now _ l _ is refl refl refl h) c.enter.ensures.ok
+    on_ok_weaker c.enter.result (λ is l h. inside_held c.args.self.now _ l _ is refl refl h) c.enter.ensures.ok

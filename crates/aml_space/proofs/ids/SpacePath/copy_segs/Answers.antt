@@ -1,14 +1,14 @@
 use Rattle.std.proofs.Common.{◌≡◌, ◌-◌, ◌≤◌, length, take, ap, ◌∙◌, arith}
 use Rattle.aml_space.specs.Nodes.{path_of}
 use Rattle.aml_space.proofs.Named.{last_part}
-use Rattle.aml_space.proofs.rows.Row.copy_segs.Goals as goal
+use Rattle.aml_space.proofs.ids.SpacePath.copy_segs.Goals as goal
 
 pub returns-clause-copied : goal.returns-clause-copied
 returns-clause-copied c =
-    let p = c.args.self.now.0 in
+    let p = c.args.self.now in
     let n = c.min-count.result in
     let from = c.args.from in
-    let here : path_of c.self.inside.nodes.now c.self.inside.at ≡ p = ap (λ e. e.0) c.self.view_is in
+    let here : path_of c.self.inside.nodes.now c.self.inside.at ≡ p = c.self.view_is in
     let rest : c.saturating_sub-rest.result ≡ length p - from = c.saturating_sub-rest.ensures
     ∙ ap (λ d. d - from) c.depth.ensures in
     let few : n ≤ length p - from = omega (arith, c.min-count.ensures, rest) in
