@@ -59,7 +59,7 @@ fn is_kind(kind: &Kind, number: usize) -> bool {
 /// Whether the path of a row is this segment.
 fn is_path(row: &Row<'_>, segment: Seg) -> bool {
     let mut segs = [Seg::default(); 2];
-    row.copy_segs(0, &mut segs) == 1 && segs[0] == segment
+    row.path().copy_segs(0, &mut segs) == 1 && segs[0] == segment
 }
 
 /// Whether the row at a place is that of the method with this number.

@@ -310,7 +310,7 @@ pub fn push_row_at(
     match space.row_at(place) {
         None => out.push_str("  none\n"),
         Some(row) => {
-            let path = row.path(alloc)?;
+            let path = row.path().to_path(alloc)?;
             push_marked(out, &path, row.kind(), row.is_sure(), row.times())
         }
     }

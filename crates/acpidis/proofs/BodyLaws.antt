@@ -3,45 +3,47 @@
 -- their marks.
 use Rattle.acpidis.proofs.Common.{AllZip, ◌≡◌, ℕ, suc, Bool, false, List, [], ◌∷◌, ◌++◌, map, length, Some, Result, Ok}
 use Rattle.acpidis.proofs.Common.{Err, refl, sym, ap, ap₂, subst, arith}
-use Rattle.acpidis.proofs.Common.{slice_get, Entry, CodeFault, Trees, OfMethod, table_codes, span_of, body_in}
-use Rattle.acpidis.proofs.Common.{TableSet, Method, Body, AgreeAt, OneBody}
+use Rattle.acpidis.proofs.Common.{slice_get, Entry, CodeFault, Trees, IfSome, table_codes, span_of, body_in}
+use Rattle.acpidis.proofs.Common.{TableSet, Method, Kept, method_in, methods_in, Body, AgreeAt, OneBody}
 use Rattle.acpidis.proofs.Common.{read, raw, all_lines, body_lines, BodyText, IsText, body_view, printed_lines, IsEntry}
 use Rattle.acpidis.proofs.Common.{Became, Reading, reading_of, entry_of, ReadsIn, AreReadings}
 use Rattle.acpidis.proofs.Common.{AreBodies, has_raw, mark_of, marks_of, IsKept, AreKept, AreKeptOf, IsSame, has_fault}
 use Rattle.acpidis.proofs.Common.{tried_mark, tried_marks, get_or}
-use Rattle.aml_namespace.specs.Known.{StandsFor}
+use Rattle.aml_namespace.specs.Known.{Known, StandsFor}
 use Rattle.asl_text.specs.declared.bodies.Body.TheVariants as bodies
 use Rattle.asl_text.specs.declared.bodies.BodyText.TheVariants as kept_texts
 use Rattle.aml_code.specs.View.{nodes_view}
 
--- what is true of each pair is true of what is made of it
-all_zip_to : {A B C : Type 0} (R : A → B → Type 0) (S : A → C → Type 0) (f : B → C)
-    → ((x : A) (y : B) → R x y → S x (f y)) → (xs : List A) (ys : List B)
-    → AllZip R xs ys → AllZip S xs (map f ys)
-all_zip_to R S f to [] [] h = tt
-all_zip_to R S f to [] (y ∷ ys) h = absurd h
-all_zip_to R S f to (x ∷ xs) [] h = absurd h
-all_zip_to R S f to (x ∷ xs) (y ∷ ys) h = (to x y h.0, all_zip_to R S f to xs ys h.1)
+-- what is true of each pair is true of what is made of both
+all_zip_to : {A B C D : Type 0} (R : A → B → Type 0) (S : C → D → Type 0) (f : A → C) (g : B → D)
+    → ((x : A) (y : B) → R x y → S (f x) (g y)) → (xs : List A) (ys : List B)
+    → AllZip R xs ys → AllZip S (map f xs) (map g ys)
+all_zip_to R S f g to [] [] h = tt
+all_zip_to R S f g to [] (y ∷ ys) h = absurd h
+all_zip_to R S f g to (x ∷ xs) [] h = absurd h
+all_zip_to R S f g to (x ∷ xs) (y ∷ ys) h = (to x y h.0, all_zip_to R S f g to xs ys h.1)
 
 module _ (z : Bool) (x : TableSet) (es : List Entry) (stands : StandsFor x.space es) where
-  is_entry : (m : Method) (d : Reading) → ReadsIn z x m d → IsEntry z es (table_codes x.tables.items) m (entry_of d)
+  abbrev declared : Kept → Method
+  declared = method_in x.space
+
+  is_entry : (m : Kept) (d : Reading) → ReadsIn z x m d → IsEntry z es (table_codes x.tables.items) (declared m) (entry_of d)
   is_entry m (Ok us) h = (h es stands).0
   is_entry m (Err why) h = (h es stands).unread.none
 
-  the_entry : (m : Method) (d : Reading) (b : OneBody) → ReadsIn z x m d → IsEntry z es (table_codes x.tables.items) m b
-      → b ≡ entry_of d
+  the_entry : (m : Kept) (d : Reading) (b : OneBody) → ReadsIn z x m d
+      → IsEntry z es (table_codes x.tables.items) (declared m) b → b ≡ entry_of d
   the_entry m (Ok us) (read ts) h e = ap read ((h es stands).1 ts e)
   the_entry m (Ok us) raw h e = absurd (e _ (h es stands).0)
   the_entry m (Err why) (read ts) h e = absurd ((h es stands).unread.none ts e)
   the_entry m (Err why) raw h e = refl
 
-  pub are_entries : (ms : List Method) (ds : List Reading) → AllZip (ReadsIn z x) ms ds
-      → AllZip (IsEntry z es (table_codes x.tables.items)) ms (map entry_of ds)
-  are_entries ms ds h = all_zip_to (ReadsIn z x) (IsEntry z es (table_codes x.tables.items)) entry_of is_entry ms ds h
+  pub are_entries : (ms : List Kept) (ds : List Reading) → AllZip (ReadsIn z x) ms ds
+      → AllZip (IsEntry z es (table_codes x.tables.items)) (methods_in x.space ms) (map entry_of ds)
+  are_entries ms ds h = all_zip_to (ReadsIn z x) (IsEntry z es (table_codes x.tables.items)) declared entry_of is_entry ms ds h
 
-  pub the_entries : (ms : List Method) (ds : List Reading) (bs : List OneBody) → AllZip (ReadsIn z x) ms ds
-      → AllZip (IsEntry z es (table_codes x.tables.items)) ms bs
-      → bs ≡ map entry_of ds
+  pub the_entries : (ms : List Kept) (ds : List Reading) (bs : List OneBody) → AllZip (ReadsIn z x) ms ds
+      → AllZip (IsEntry z es (table_codes x.tables.items)) (methods_in x.space ms) bs → bs ≡ map entry_of ds
   the_entries [] [] [] h e = refl
   the_entries [] [] (b ∷ bs) h e = absurd e
   the_entries [] (d ∷ ds) bs h e = absurd h
@@ -49,12 +51,12 @@ module _ (z : Bool) (x : TableSet) (es : List Entry) (stands : StandsFor x.space
   the_entries (m ∷ ms) (d ∷ ds) [] h e = absurd e
   the_entries (m ∷ ms) (d ∷ ds) (b ∷ bs) h e = ap₂ ◌∷◌ (the_entry m d b h.0 e.0) (the_entries ms ds bs h.1 e.1)
 
-  became : (m : Method) (d : Body) → ReadsIn z x m (reading_of d) → Became z es (table_codes x.tables.items) m d
+  became : (m : Kept) (d : Body) → ReadsIn z x m (reading_of d) → Became z es (table_codes x.tables.items) (declared m) d
   became m (bodies.Tree nodes) h = h es stands
   became m (bodies.Raw f) h = h es stands
 
-  pub are_told : (ms : List Method) (ds : List Body) → AllZip (ReadsIn z x) ms (map reading_of ds)
-      → AllZip (Became z es (table_codes x.tables.items)) ms ds
+  pub are_told : (ms : List Kept) (ds : List Body) → AllZip (ReadsIn z x) ms (map reading_of ds)
+      → AllZip (Became z es (table_codes x.tables.items)) (methods_in x.space ms) ds
   are_told [] [] h = tt
   are_told [] (d ∷ ds) h = absurd h
   are_told (m ∷ ms) [] h = absurd h
@@ -69,9 +71,9 @@ entries_are (bodies.Raw f ∷ ds) = ap (λ bs. raw ∷ bs) (entries_are ds)
 -- ---- what is kept of bodies
 
 -- the bodies of which it is kept, by number
-pub chosen : {X : Type 0} (Is : Method → Reading → Type 0) (Keeps : ℕ → Reading → X → Type 0) (ms : List Method) (ds : List X)
+pub chosen : {X : Type 0} (Is : Kept → Reading → Type 0) (Keeps : ℕ → Reading → X → Type 0) (ms : List Kept) (ds : List X)
     → length ds ≡ length ms
-    → ((n : ℕ) (d : X) → slice_get ds n ≡ Some d → (b : Reading) × OfMethod (slice_get ms n) (λ m. Is m b) × Keeps n b d)
+    → ((n : ℕ) (d : X) → slice_get ds n ≡ Some d → (b : Reading) × IfSome (slice_get ms n) (λ m. Is m b) × Keeps n b d)
     → (bs : List Reading) × AllZip Is ms bs × AreKept Keeps bs ds
 chosen Is Keeps [] [] l h = ([], tt, tt)
 chosen Is Keeps [] (d ∷ ds) l h = absurd (omega (arith, l))
@@ -141,11 +143,11 @@ mark_is cs m (Ok us) (Err fault) k = absurd k
 mark_is cs m (Err why) (Ok same) k = absurd k
 mark_is cs m (Err why) (Err kept) k = refl
 
-pub trials_are : (cs : List (List ℕ)) (ms : List Method) (bs : List Reading) (ds : List (Result Bool CodeFault))
+pub trials_are : (cs : List (List ℕ)) (known : Known) (ms : List Kept) (bs : List Reading) (ds : List (Result Bool CodeFault))
     → AreKept (λ n. IsKept (IsSame (body_in cs (slice_get ms n)))) bs ds
-    → tried_marks ms ds ≡ marks_of cs ms (map entry_of bs)
-trials_are cs [] bs ds k = refl
-trials_are cs (m ∷ ms) [] [] k = refl
-trials_are cs (m ∷ ms) [] (d ∷ ds) k = absurd k
-trials_are cs (m ∷ ms) (b ∷ bs) [] k = absurd k
-trials_are cs (m ∷ ms) (b ∷ bs) (d ∷ ds) k = ap₂ ◌∷◌ (mark_is cs m b d k.0) (trials_are cs ms bs ds k.1)
+    → tried_marks ms ds ≡ marks_of cs (methods_in known ms) (map entry_of bs)
+trials_are cs known [] bs ds k = refl
+trials_are cs known (m ∷ ms) [] [] k = refl
+trials_are cs known (m ∷ ms) [] (d ∷ ds) k = absurd k
+trials_are cs known (m ∷ ms) (b ∷ bs) [] k = absurd k
+trials_are cs known (m ∷ ms) (b ∷ bs) (d ∷ ds) k = ap₂ ◌∷◌ (mark_is cs (method_in known m) b d k.0) (trials_are cs known ms bs ds k.1)

@@ -5,7 +5,7 @@ use Rattle.acpidis.proofs.Common.{◌&&◌, list_all, sum_by-cons, at_drop_all, 
 use Rattle.acpidis.proofs.Common.{All-get_or, All-map, All-set, All-weaker, All-nil, All-cons, ◌≡◌}
 use Rattle.acpidis.proofs.Common.{ℕ, zero, suc, ◌+◌, ◌<◌, ◌≤◌, nat_eq, Bool, true, false, cond, List, [], ◌∷◌, map}
 use Rattle.acpidis.proofs.Common.{drop, length, get_or, set, inl, inr, Result}
-use Rattle.acpidis.proofs.Common.{refl, sym, ap, ap₂, ◌∙◌, arith, CodeFault, Trees, AreShort, Method, OneBlock}
+use Rattle.acpidis.proofs.Common.{refl, sym, ap, ap₂, ◌∙◌, arith, CodeFault, Trees, AreShort, Kept, OneBlock}
 use Rattle.acpidis.proofs.Common.{blocks_of, marks_in, IsUnder, Under, added}
 use Rattle.acpidis.proofs.Common.{uncounted, tally, tallied, tried_mark, tried_marks, Checked, Mark}
 use Rattle.std.proofs.lemmas.Bool.{cases_lt}
@@ -90,19 +90,19 @@ pub record Counted (marks : List Mark) (n : ℕ) (first now : List Checked) : Ty
   pub under : Under (n + 1) now
   pub rest : tallied (drop n marks) 0 now ≡ tallied marks 0 first
 
-module _ (ms : List Method) (ds : List (Result Bool CodeFault)) (each : length ds ≡ length ms) where
+module _ (ms : List Kept) (ds : List (Result Bool CodeFault)) (each : length ds ≡ length ms) where
   many : length (tried_marks ms ds) ≡ length ms
-  many = pairs_many (λ (p : Method × Result Bool CodeFault). tried_mark p.0.table p.1) ms ds each
+  many = pairs_many (λ (p : Kept × Result Bool CodeFault). tried_mark p.0.table p.1) ms ds each
 
   -- one more, by what was tried of a method's body
-  pub counted_more : (n : ℕ) (m : Method) (d : Result Bool CodeFault) (mark : Mark) (first now more : List Checked)
+  pub counted_more : (n : ℕ) (m : Kept) (d : Result Bool CodeFault) (mark : Mark) (first now more : List Checked)
       → n < length ms → m ≡ get_or ms n m
       → mark ≡ tried_mark m.table (get_or ds n d)
       → ((other : Checked) → more ≡ set now mark.table (added mark (get_or now mark.table other)))
       → Counted (tried_marks ms ds) n first now → Counted (tried_marks ms ds) (n + 1) first more
   counted_more n m d mark first now more inside here is grown was =
       let marks = tried_marks ms ds in
-      let there = is ∙ pair_there (λ (p : Method × Result Bool CodeFault). tried_mark p.0.table p.1) ms ds each n m (get_or ds n d) mark inside here
+      let there = is ∙ pair_there (λ (p : Kept × Result Bool CodeFault). tried_mark p.0.table p.1) ms ds each n m (get_or ds n d) mark inside here
       (get_or_default ds n d (get_or ds n d) (omega arith)) in
       let cut : drop n marks ≡ mark ∷ drop (n + 1) marks =
       drop_more marks n mark (omega (arith, many)) ∙ ap (λ x. x ∷ drop (n + 1) marks) (sym there) in record {

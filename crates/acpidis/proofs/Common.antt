@@ -18,13 +18,14 @@ pub use Rattle.aml_code.specs.Lawful.{ReadsModule}
 pub use Rattle.aml_code.specs.Tree.{Trees, no_trees}
 pub use Rattle.aml_load.specs.Loading.{methods_of}
 pub use Rattle.aml_set.specs.Code.{AreShort}
-pub use Rattle.aml_set.specs.Views.{codes_view, span_of, body_in, trees_view, body_of, table_codes, table_dumps}
+pub use Rattle.aml_set.specs.Methods.{Method, method_in, methods_in, span_of}
+pub use Rattle.aml_set.specs.Views.{codes_view, body_in, methods_of_set, trees_view, body_of, table_codes, table_dumps}
 pub use Rattle.aml_set.specs.Views.{table_terms, body_in_set, IsListed}
-pub use Rattle.aml_load.specs.Views.{OfMethod, HoldsLoad, HoldsTables}
+pub use Rattle.aml_load.specs.Views.{HoldsLoad, HoldsTables}
 pub use Rattle.aml_set.specs.declared.loaded.Loaded.{Loaded}
 pub use Rattle.aml_set.specs.declared.tables.Table.{Table}
 pub use Rattle.aml_set.specs.declared.tables.TableSet.{TableSet}
-pub use Rattle.aml_set.specs.declared.methods.Method.{Method}
+pub use Rattle.aml_set.specs.declared.methods.Method.{Method as Kept}
 pub use Rattle.aml_names.specs.declared.faults.CodeFault.{CodeFault}
 pub use Rattle.aml_namespace.specs.Namespace.{Entry, Givens}
 pub use Rattle.asl_text.proofs.LevelLaws.{AgreeAt}
@@ -35,7 +36,7 @@ pub use Rattle.asl_text.specs.Texts.{OneBody, read, raw, all_lines, body_lines, 
 pub use Rattle.asl_text.specs.declared.bodies.Body.{Body}
 pub use Rattle.asl_text.specs.declared.bodies.BodyText.{BodyText}
 pub use Rattle.std.proofs.Common.{◌≡◌, ℕ, suc, Bool, false, List, [], ◌∷◌, ◌++◌, map, length, Some, Result, Ok, Err}
-pub use Rattle.std.proofs.Common.{refl, sym, ap, ap₂, subst, arith}
+pub use Rattle.std.proofs.Common.{refl, sym, ap, ap₂, subst, arith, IfSome}
 pub use Rattle.std.proofs.Common.{slice_get, map-id, get_or, ◌&&◌, zero, ◌+◌, ◌<◌, ◌≤◌, nat_eq, true, cond, drop, set}
 pub use Rattle.std.proofs.Common.{inl, inr, ◌∙◌, filter, length-drop, take}
 pub use Rattle.std.proofs.Common.{rules, zip, flat_map, true≢false, ◌-◌}

@@ -2,7 +2,7 @@
 -- were read it is what they mean, and whatever they mean is that. What a refused load tells is told of the one order.
 use Rattle.acpidis.proofs.Common.{AllZip, ◌≡◌, ◌≤◌, ℕ, List, [], ◌∷◌, map, length, drop, get_or, refl, sym, ap, ap₂}
 use Rattle.acpidis.proofs.Common.{◌∙◌, Trees, Entry}
-use Rattle.acpidis.proofs.Common.{LoadsBy, methods_of, HoldsTables, Loaded, TableSet, table_dumps, IsListed, Dump}
+use Rattle.acpidis.proofs.Common.{LoadsBy, methods_in, methods_of, HoldsTables, Loaded, TableSet, table_dumps, IsListed, Dump}
 use Rattle.acpidis.proofs.Common.{Order, IsOrder, Body, indexes_in, Options, codes_in}
 use Rattle.acpidis.proofs.Common.{Reading, entry_of, AreReadings}
 use Rattle.acpidis.proofs.Common.{Became, AreBodies, Meaning, LoadsSet, HoldsSet, HasTables, Means, IsSet, codes_of}
@@ -125,6 +125,6 @@ listed_so order loaded x dumps k is named it =
         tables = is.tables ∙ it.holds.tables;
         trees = is.trees ∙ it.holds.trees;
         space = rw is.space it.holds.space;
-        methods = is.methods ∙ it.holds.methods;
+        methods = ap₂ methods_in is.space is.methods ∙ it.holds.methods;
       };
     }

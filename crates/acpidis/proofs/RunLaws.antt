@@ -3,7 +3,7 @@
 -- the whole text, or its first bytes. Two listings in memory of the same dumps print the same (`one_output`).
 use Rattle.acpidis.proofs.Common.{◌≡◌, ℕ, Bool, true, false, cond, List, ◌∷◌, ◌++◌, map, get_or, Result, sym, ap, ap₂}
 use Rattle.acpidis.proofs.Common.{◌∙◌, methods_of, codes_view}
-use Rattle.acpidis.proofs.Common.{table_codes, table_dumps, table_terms, body_in_set, TableSet, Method, CodeFault}
+use Rattle.acpidis.proofs.Common.{table_codes, table_dumps, table_terms, body_in_set, methods_in, methods_of_set, TableSet, Method, CodeFault}
 use Rattle.acpidis.proofs.Common.{Trees, Dump, BodyText, OneBody, OneBlock, levels_of}
 use Rattle.acpidis.proofs.Common.{blocks_of, blocks_in, body_lines, names_in, whole_text, listing_text, IsText}
 use Rattle.acpidis.proofs.Common.{body_view, printed_lines, indexes_in, has_raw}
@@ -58,7 +58,8 @@ module _ (dumps : List Dump) (options : Options) (x y : Listing) (sound : (k : M
 
   abbrev pub shown : Bool → Listing → List ℕ
   shown check l =
-      printed check l.dumps.now l.loaded.space (blocks_in l) (codes_view l.loaded.tables.items) l.loaded.methods.items (map body_view l.bodies.items)
+      printed check l.dumps.now l.loaded.space (blocks_in l) (codes_view l.loaded.tables.items) (methods_in l.loaded.space l.loaded.methods.items)
+      (map body_view l.bodies.items)
 
   shown_is : (check : Bool) (l : Listing) → Shows l dumps sound.0 → shown check l ≡ output_of check dumps sound.0
   shown_is check l s =
@@ -66,8 +67,9 @@ module _ (dumps : List Dump) (options : Options) (x y : Listing) (sound : (k : M
       let trees = map (λ v. nodes_view v.items) l.loaded.trees.items in
       let order = indexes_in l.order in
       let codes = codes_view l.loaded.tables.items in
-      (λ i. printed check (s.same_dumps i) l.loaded.space (blocks_of (names_in (s.same_dumps i) order) codes trees) codes l.loaded.methods.items (s.bodies i))
-      ∙ printed_is dumps sound.0 order codes trees l.loaded.space l.loaded.methods.items (ap₂ ◌∷◌ s.set.dsdt s.set.ssdts) holds.tables holds.trees holds.space
+      let ms = methods_in l.loaded.space l.loaded.methods.items in
+      (λ i. printed check (s.same_dumps i) l.loaded.space (blocks_of (names_in (s.same_dumps i) order) codes trees) codes ms (s.bodies i))
+      ∙ printed_is dumps sound.0 order codes trees l.loaded.space ms (ap₂ ◌∷◌ s.set.dsdt s.set.ssdts) holds.tables holds.trees holds.space
       holds.methods check
 
   pub one_output : (check : Bool) → shown check x ≡ shown check y
@@ -80,7 +82,7 @@ module _ (dumps : List Dump) (options : Options) (x : TableSet) where
   blocks = blocks_of (names_in dumps (table_dumps x.tables.items)) (table_codes x.tables.items) (table_terms x.tables.items)
 
   abbrev printed_set : Bool → List OneBody → List ℕ
-  printed_set check bs = printed check dumps x.space blocks (table_codes x.tables.items) x.methods.items bs
+  printed_set check bs = printed check dumps x.space blocks (table_codes x.tables.items) (methods_of_set x) bs
 
   module _ (set : IsSet dumps options x) (bs : List Reading) (are : AreReadings options.unknown_zero x bs) where
     bodies_are : (k : Meaning) → Means dumps options k → map entry_of bs ≡ k.bodies
@@ -94,7 +96,7 @@ module _ (dumps : List Dump) (options : Options) (x : TableSet) where
         let it = set.one k means.set in (
           s ∙ ap (λ b. cond (has_raw b) 3 0) (bodies_are k means),
           t ∙ ap (printed_set check) (bodies_are k means)
-              ∙ printed_is dumps k (table_dumps x.tables.items) (table_codes x.tables.items) (table_terms x.tables.items) x.space x.methods.items it.named
+              ∙ printed_is dumps k (table_dumps x.tables.items) (table_codes x.tables.items) (table_terms x.tables.items) x.space (methods_of_set x) it.named
               it.holds.tables it.holds.trees it.holds.space it.holds.methods check,
         ) in
         let here = of meant.0 meant.1 in
@@ -104,12 +106,12 @@ module _ (dumps : List Dump) (options : Options) (x : TableSet) where
         }
 
     -- no table differs
-    same_so : all_same (checks_with blocks (marks_of (table_codes x.tables.items) x.methods.items (map entry_of bs))) ≡ true
+    same_so : all_same (checks_with blocks (marks_of (table_codes x.tables.items) (methods_of_set x) (map entry_of bs))) ≡ true
     same_so =
         let meant = means_so dumps options x bs are set.sound in
         let it = meant.2 in
-        ap (λ bs. all_same (checks_with blocks (marks_of (table_codes x.tables.items) x.methods.items bs))) meant.3
-        ∙ at_listing dumps meant.0 (table_dumps x.tables.items) (table_codes x.tables.items) (table_terms x.tables.items) x.space x.methods.items it.named
+        ap (λ bs. all_same (checks_with blocks (marks_of (table_codes x.tables.items) (methods_of_set x) bs))) meant.3
+        ∙ at_listing dumps meant.0 (table_dumps x.tables.items) (table_codes x.tables.items) (table_terms x.tables.items) x.space (methods_of_set x) it.named
         it.holds.tables it.holds.trees it.holds.space it.holds.methods (λ blocks codes ms. all_same (checks_with blocks (marks_of codes ms meant.0.bodies)))
         ∙ all_are_same dumps options meant.0 meant.1
 
@@ -135,8 +137,8 @@ module _ (dumps : List Dump) (options : Options) (x : TableSet) where
       kept : AreKeptOf (λ n. IsKept (IsSame (body_in_set x n))) options.unknown_zero x ds
       kept = rw is was
 
-      marks_are : tried_marks x.methods.items ds ≡ marks_of (table_codes x.tables.items) x.methods.items (map entry_of kept.0)
-      marks_are = trials_are (table_codes x.tables.items) x.methods.items kept.0 ds kept.2
+      marks_are : tried_marks x.methods.items ds ≡ marks_of (table_codes x.tables.items) (methods_of_set x) (map entry_of kept.0)
+      marks_are = trials_are (table_codes x.tables.items) x.space x.methods.items kept.0 ds kept.2
 
       pub trials_output : IsOutput dumps options true (cond (has_fault ds) 3 0)
           (check_lines blocks (checks_with blocks (tried_marks x.methods.items ds)))

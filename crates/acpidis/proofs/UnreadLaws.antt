@@ -1,5 +1,5 @@
 -- What a body reads as, by what was told of it.
-use Rattle.acpidis.proofs.Common.{◌≡◌, ℕ, List, Bool, Result, Ok, Err, Trees, Entry, CodeFault, Method, Reading, ReadsIn, table_codes, span_of}
+use Rattle.acpidis.proofs.Common.{◌≡◌, ℕ, List, Bool, Result, Ok, Err, Trees, Entry, CodeFault, Method, method_in, Reading, ReadsIn, table_codes, span_of}
 use Rattle.acpidis.proofs.Common.{inl, inr, ap, all_lines, flat_map, ◌∙◌}
 use Rattle.std.specs.Prelude.{◌⊎◌, ◌≢◌}
 use Rattle.std.specs.Result.{IfErr}
@@ -28,32 +28,35 @@ raw_as z es cs m f other (inr unread) (inl want) = absurd (other want)
 raw_as z es cs m f other (inr unread) (inr first) = record { unread = unread; first = first }
 
 module _ (u : Unread) (it : IsItsBody u) where
+  abbrev method : Method
+  method = method_in u.set.now.space u.method.now
+
   abbrev Says : (List Entry → List (List ℕ) → Type 0) → Type 0
-  Says P = (tables : List (List ℕ)) → u.bytes.now ≡ span_of tables u.method.now → (es : List Entry) → StandsFor u.set.now.space es → P es tables
+  Says P = (tables : List (List ℕ)) → u.bytes.now ≡ span_of tables method → (es : List Entry) → StandsFor u.set.now.space es → P es tables
 
   raw_by : (f : CodeFault) → (f ≡ codes.NoMemory) ⊎ (f ≢ codes.NoMemory)
-      → Says (λ es tables. IsReading (λ (read : Trees). read) u.unknown_zero es tables u.method.now (Err f))
-      → Says (λ es tables. GivesBody (λ (read : Trees). read) u.unknown_zero es tables u.method.now (Err f))
+      → Says (λ es tables. IsReading (λ (read : Trees). read) u.unknown_zero es tables method (Err f))
+      → Says (λ es tables. GivesBody (λ (read : Trees). read) u.unknown_zero es tables method (Err f))
       → (f ≡ codes.NoMemory) ⊎ ReadsIn u.unknown_zero u.set.now u.method.now (Err f)
   raw_by f (inl want) fails first = inl want
   raw_by f (inr other) fails first = inr (λ es s.
       let cs = table_codes u.set.now.tables.items in
-      raw_as u.unknown_zero es cs u.method.now f other (fails cs it.body es s) (first cs it.body es s))
+      raw_as u.unknown_zero es cs method f other (fails cs it.body es s) (first cs it.body es s))
 
   -- a body that isn't told is raw, or there was no memory
-  pub raw_or : (f : CodeFault) → Says (λ es tables. IsReading (λ (read : Trees). read) u.unknown_zero es tables u.method.now (Err f))
-      → Says (λ es tables. GivesBody (λ (read : Trees). read) u.unknown_zero es tables u.method.now (Err f))
+  pub raw_or : (f : CodeFault) → Says (λ es tables. IsReading (λ (read : Trees). read) u.unknown_zero es tables method (Err f))
+      → Says (λ es tables. GivesBody (λ (read : Trees). read) u.unknown_zero es tables method (Err f))
       → (f ≡ codes.NoMemory) ⊎ ReadsIn u.unknown_zero u.set.now u.method.now (Err f)
   raw_or f = raw_by f (want_or f)
 
   -- one that is told reads so, and its pieces are its lines
-  pub told_reads : (ts : Trees) → ReadsBy u.unknown_zero u.set.now.space u.bytes.now u.method.now ts
+  pub told_reads : (ts : Trees) → ReadsBy u.unknown_zero u.set.now.space u.bytes.now method ts
       → ReadsIn u.unknown_zero u.set.now u.method.now (Ok ts)
   told_reads ts reads = λ es s. reads.reading (table_codes u.set.now.tables.items) it.body es s
 
   pub told_lines : (level : ℕ) (ts : Trees) (ps : List Told) (text : List ℕ)
-      → ReadsBy u.unknown_zero u.set.now.space u.bytes.now u.method.now ts → ps ≡ line_pieces level ts → text ≡ flat_map piece_text ps
+      → ReadsBy u.unknown_zero u.set.now.space u.bytes.now method ts → ps ≡ line_pieces level ts → text ≡ flat_map piece_text ps
       → text ≡ all_lines level ts
   told_lines level ts ps text reads is shown =
       let lawful = reads.lawful in
-      shown ∙ ap (flat_map piece_text) is ∙ body_text lawful.0 u.method.now.path u.bytes.now level ts lawful.1
+      shown ∙ ap (flat_map piece_text) is ∙ body_text lawful.0 method.path u.bytes.now level ts lawful.1

@@ -1,6 +1,6 @@
 -- The AML of definition blocks, and what becomes of the bodies of methods: terms, or bytes where a body reads as none.
 use Rattle.std.specs.Prelude.{ℕ, List, drop, map, ◌≡◌, ◌<◌, ◌≤◌, Bool, true, false, length, slice_get, All, Vec, Err}
-use Rattle.std.specs.Prelude.{Ok, Result}
+use Rattle.std.specs.Prelude.{Ok, Result, IfSome}
 use Rattle.acpi_tables.specs.declared.dump.Dump.{Dump}
 use Rattle.acpi_tables.specs.Header.{table_of}
 use Rattle.acpi_tables.specs.Order.{bytes_of}
@@ -11,11 +11,12 @@ use Rattle.aml_names.specs.declared.faults.CodeFault.{CodeFault}
 use Rattle.aml_code.specs.Tree.{Trees}
 use Rattle.aml_code.specs.View.{nodes_view}
 use Rattle.aml_namespace.specs.Namespace.{Entry}
-use Rattle.aml_namespace.specs.Known.{StandsAt, StandsFor}
-use Rattle.aml_set.specs.Views.{span_of, table_codes}
-use Rattle.aml_load.specs.Views.{IsBody, IsUnread, body_at, OfMethod}
+use Rattle.aml_namespace.specs.Known.{StandsFor}
+use Rattle.aml_set.specs.Methods.{Method, method_in, span_of}
+use Rattle.aml_set.specs.Views.{table_codes}
+use Rattle.aml_load.specs.Views.{IsBody, IsUnread, body_at}
 use Rattle.aml_set.specs.declared.tables.TableSet.{TableSet}
-use Rattle.aml_set.specs.declared.methods.Method.{Method}
+use Rattle.aml_set.specs.declared.methods.Method.{Method as Kept}
 use Rattle.aml_pool.specs.Counting.{IsOnce}
 use Rattle.aml_pool.specs.Seats.{all_of}
 use Rattle.asl_text.specs.declared.bodies.Body.{Body}
@@ -86,12 +87,12 @@ ReadsAs z es tables m (Ok ts) =
 ReadsAs z es tables m (Err fault) = IsRaw z es tables m fault
 
 -- whatever entries the namespace of a loaded set stands for
-abbrev pub ReadsIn : Bool → TableSet → Method → Reading → Type 0
-ReadsIn z x m r = (es : List Entry) → StandsFor x.space es → ReadsAs z es (table_codes x.tables.items) m r
+abbrev pub ReadsIn : Bool → TableSet → Kept → Reading → Type 0
+ReadsIn z x m r = (es : List Entry) → StandsFor x.space es → ReadsAs z es (table_codes x.tables.items) (method_in x.space m) r
 
 -- that of the method of this number, and those of all
 abbrev pub ReadsOf : Bool → TableSet → ℕ → Reading → Type 0
-ReadsOf z x number r = OfMethod (slice_get x.methods.items number) (λ m. ReadsIn z x m r)
+ReadsOf z x number r = IfSome (slice_get x.methods.items number) (λ m. ReadsIn z x m r)
 
 abbrev pub AreReadings : Bool → TableSet → List Reading → Type 0
 AreReadings z x rs = AllZip (ReadsIn z x) x.methods.items rs
@@ -101,6 +102,5 @@ AreBodies z x ds = AreReadings z x (map reading_of ds)
 
 -- the body that is to be read is that of the method of its number
 pub record IsItsBody (u : Unread) : Type 0 where
-  pub numbered : StandsAt u.set.now.space u.id u.method.now.path
   pub short : length u.bytes.now ≤ 16777216
-  pub body : u.bytes.now ≡ span_of (table_codes u.set.now.tables.items) u.method.now
+  pub body : u.bytes.now ≡ span_of (table_codes u.set.now.tables.items) (method_in u.set.now.space u.method.now)

@@ -7,8 +7,9 @@ use Rattle.std.specs.List.{list_all, list_any, count_by}
 use lib.Pointwise.{pointwise}
 use Rattle.aml_code.specs.Tree.{encodings, Trees}
 use Rattle.aml_load.specs.Loading.{methods_of}
-use Rattle.aml_set.specs.Views.{codes_view, span_of}
-use Rattle.aml_set.specs.declared.methods.Method.{Method}
+use Rattle.aml_set.specs.Methods.{Method, methods_in, span_of}
+use Rattle.aml_set.specs.Views.{codes_view}
+use Rattle.aml_set.specs.declared.methods.Method.{Method as Kept}
 use Rattle.asl_text.specs.Texts.{OneBody, read, raw, OneBlock, all_lines}
 use Rattle.asl_text.specs.Bodies.{body_view}
 use Rattle.aml_text.specs.Listing.{names_in, blocks_of, blocks_in}
@@ -75,7 +76,7 @@ checks_with blocks marks = tallied marks 0 (map uncounted blocks)
 abbrev pub checks_of : Listing → List Checked
 checks_of x =
     checks_with (blocks_in x)
-    (marks_of (codes_view x.loaded.tables.items) x.loaded.methods.items (map body_view x.bodies.items))
+    (marks_of (codes_view x.loaded.tables.items) (methods_in x.loaded.space x.loaded.methods.items) (map body_view x.bodies.items))
 
 -- whether all tables are the same
 abbrev pub all_same : List Checked → Bool
@@ -141,7 +142,7 @@ abbrev pub tried_mark : ℕ → Result Bool CodeFault → Mark
 tried_mark table (Ok same) = record { table = table; raw = false; same = same }
 tried_mark table (Err fault) = record { table = table; raw = true; same = true }
 
-abbrev pub tried_marks : List Method → List (Result Bool CodeFault) → List Mark
+abbrev pub tried_marks : List Kept → List (Result Bool CodeFault) → List Mark
 tried_marks ms ds = map (λ p. tried_mark p.0.table p.1) (zip ms ds)
 
 -- ---- A stepping stone of the proofs of `check`: the methods of tables, counted one after the other.

@@ -8,10 +8,9 @@ ghost use Rattle.acpidis.specs.Checks.{AreKeptOf};
 use crate::crew::Crew;
 use crate::refusal::Refusal;
 use aml_code::CodeFault;
-use aml_load::read_numbered;
+use aml_load::read_span;
 use aml_pool::{Gate, NoMemory, PoolFault, Results, Work, harvest, harvest_alone};
 use aml_set::{Method, TableSet};
-use aml_space::PathId;
 use asl_text::Body;
 use std::alloc::Global;
 use std::sync::Wait;
@@ -25,8 +24,6 @@ pub(crate) struct Unread<'a, 'b> {
     pub(crate) unknown_zero: bool,
     pub(crate) number: u32,
     pub(crate) method: &'a Method,
-    /// The number of the method's path.
-    pub(crate) id: PathId,
     pub(crate) bytes: &'a [u8],
 }
 
@@ -37,11 +34,10 @@ impl<'a, 'b> Unread<'a, 'b> {
         ensures { IfOk result (λ body.
             ReadsIn self.now.unknown_zero self.now.set.now self.now.method.now (reading_of body)) }
     {
-        match read_numbered(
+        match read_span(
             self.alloc,
             self.bytes,
             &self.set.space,
-            self.id,
             self.method,
             self.unknown_zero,
         ) {
@@ -93,7 +89,6 @@ impl<'a, 'b, K: Keep> Work for Keeping<'a, 'b, K> {
             unknown_zero: self.unknown_zero,
             number,
             method,
-            id: self.set.numbers[number as usize],
             bytes,
         })
     }

@@ -20,13 +20,14 @@ use crate::texts::Texts;
 use crate::trials::Trials;
 use acpi_folder::Quoted;
 use acpi_tables::Dump;
-use aml_code::CodeFault;
+use aml_code::{CodeFault, NoMemory};
+use aml_names::Seg;
 use aml_load::LoadFault;
 use aml_pool::{Gate, Results};
-use aml_set::Method;
+use aml_set::TableSet;
 use aml_text::{BodyText, Tables, body_levels, write_printed};
 use std::alloc::Global;
-use std::io::Write;
+use std::io::{Error, Write};
 use std::mem::forget;
 use std::sync::Wait;
 use std::thread::Threads;
@@ -170,10 +171,10 @@ pub(crate) fn print_listing<O: Write, E: Write>(
     ensures { Ends tables.entry.dumps.now options.now false (O.contents out.old) (O.contents out.new) result }
 {
     let _ = options;
-    let _ = keep;
     let texts = found.items.as_slice();
+    let room = room_for_paths(keep.alloc, tables.set, texts)?;
     write_printed(out, tables, texts)?;
-    print_raw_bodies(tables.set.methods.as_slice(), texts, err);
+    print_raw_bodies(tables.set, texts, room, err);
     Ok(status_of_bodies(texts))
 }
 
@@ -215,11 +216,12 @@ pub(crate) fn print_trials<O: Write, E: Write>(
     let methods = tables.set.methods.as_slice();
     let tried = found.items.as_slice();
     let checks = check_tables(alloc, &tables, methods, tried)?;
+    let room = room_for_paths(alloc, tables.set, tried)?;
     write_tables(out, &tables, checks.as_slice())?;
     if !are_same(checks.as_slice()) {
         return Err(RunFault::Differs);
     }
-    print_raw_bodies(methods, tried, err);
+    print_raw_bodies(tables.set, tried, room, err);
     Ok(status_of_bodies(tried))
 }
 
@@ -284,11 +286,47 @@ fn name_of(dumps: &[Dump], index: Option<usize>) -> Option<&str> {
     Some(dump.name.as_str())
 }
 
-/// Prints each body that can't be read, by its method's path, and why.
-fn print_raw_bodies<T, E: Write>(methods: &[Method], bodies: &[Result<T, CodeFault>], err: &mut E) {
-    for (method, body) in methods.iter().zip(bodies.iter()) {
-        if let Err(fault) = body {
-            let _ = writeln!(err, "acpidis: body {}: {fault}", method.path);
+/// Room for the longest path of a method whose body can't be read.
+fn room_for_paths<T>(
+    alloc: Global,
+    set: &TableSet<'_>,
+    bodies: &[Result<T, CodeFault>],
+) -> Result<Vec<Seg>, NoMemory> {
+    let mut longest = 0;
+    for (method, body) in set.methods.iter().zip(bodies.iter()) {
+        if body.is_err() {
+            longest = longest.max(set.space.path(method.path).depth());
         }
     }
+    let mut room = Vec::new(alloc);
+    room.resize(longest, Seg::default())?;
+    Ok(room)
+}
+
+/// Prints each body that can't be read, by its method's path, for which there is room, and why.
+fn print_raw_bodies<T, E: Write>(
+    set: &TableSet<'_>,
+    bodies: &[Result<T, CodeFault>],
+    mut room: Vec<Seg>,
+    err: &mut E,
+) {
+    for (method, body) in set.methods.iter().zip(bodies.iter()) {
+        if let Err(fault) = body {
+            let path = set.space.path(method.path);
+            let depth = path.copy_segs(0, room.as_mut_slice());
+            let _ = print_raw_body(&room[..depth], fault, err);
+        }
+    }
+}
+
+/// Prints that the body of the method at a path can't be read, and why.
+fn print_raw_body<E: Write>(path: &[Seg], fault: &CodeFault, err: &mut E) -> Result<(), Error> {
+    write!(err, "acpidis: body \\")?;
+    if let Some((first, others)) = path.split_first() {
+        write!(err, "{first}")?;
+        for seg in others {
+            write!(err, ".{seg}")?;
+        }
+    }
+    writeln!(err, ": {fault}")
 }

@@ -4,6 +4,7 @@ ghost use Rattle.std.specs.Prelude.{◌≡◌, ◌⊎◌, Err, IfOk, get_or};
 ghost use Rattle.aml_code.specs.Pieces.{line_pieces};
 ghost use Rattle.aml_code.specs.Tree.{Trees};
 ghost use Rattle.aml_names.specs.declared.faults.CodeFault.TheVariants.{NoMemory as want};
+ghost use Rattle.aml_set.specs.Methods.{method_in};
 ghost use Rattle.aml_load.specs.Views.{ReadsBy};
 ghost use Rattle.asl_text.specs.Bodies.{IsText};
 ghost use Rattle.acpidis.specs.Bodies.{IsItsBody, Reading, ReadsIn};
@@ -11,7 +12,7 @@ ghost use Rattle.acpidis.specs.Checks.{IsKept};
 
 use crate::bodies::{Keep, Unread};
 use aml_code::{CodeFault, Sink, Telling};
-use aml_load::tell_numbered;
+use aml_load::tell_span;
 use aml_pool::NoMemory;
 use asl_text::{Body, BodyText, told_text};
 use std::alloc::Global;
@@ -47,18 +48,17 @@ pub(crate) struct AtLevel<'u, 'a, 'b> {
 impl Telling for AtLevel<'_, '_, '_> {
     ghost can_tell = { λ t. IsItsBody t.unread.now };
 
-    ghost tells = { λ t ps. (ts : Trees) × (ReadsBy t.unread.now.unknown_zero t.unread.now.set.now.space
-        t.unread.now.bytes.now t.unread.now.method.now ts × (ps ≡ line_pieces t.level ts)) };
+    ghost tells = { λ t ps. let u = t.unread.now in let k = u.set.now.space in (ts : Trees) ×
+        (ReadsBy u.unknown_zero k u.bytes.now (method_in k u.method.now) ts × (ps ≡ line_pieces t.level ts)) };
 
     ghost fails = { λ t fault. (fault ≡ want) ⊎
         ReadsIn t.unread.now.unknown_zero t.unread.now.set.now t.unread.now.method.now (Err fault) };
 
     fn tell_all<S: Sink>(&self, sink: &mut S) -> Result<(), CodeFault> {
-        tell_numbered(
+        tell_span(
             self.unread.alloc,
             self.unread.bytes,
             &self.unread.set.space,
-            self.unread.id,
             self.unread.method,
             self.unread.unknown_zero,
             self.level,

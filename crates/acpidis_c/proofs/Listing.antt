@@ -14,7 +14,8 @@ use Rattle.aml_namespace.specs.Namespace.{Entry}
 use Rattle.aml_namespace.specs.Known.{StandsFor}
 use Rattle.aml_namespace.proofs.Stands.{declarations_alone}
 use Rattle.aml_set.specs.Views.{table_codes}
-use Rattle.aml_set.specs.declared.methods.Method.{Method}
+use Rattle.aml_set.specs.declared.methods.Method.{Method as Kept}
+use Rattle.aml_set.specs.Methods.{methods_in}
 use Rattle.aml_set.specs.declared.tables.TableSet.{TableSet}
 use Rattle.acpidis.specs.Bodies.{Reading, ReadsAs, ReadsIn, AreReadings}
 use Rattle.acpidis.specs.Checks.{AreKept, IsKept, AreLines}
@@ -109,8 +110,8 @@ are_read true z set ds v kept are asked =
 -- ---- by what the dumps load to
 
 module _ (z : Bool) (set : TableSet) (es : List Entry) (stands : StandsFor set.space es) where
-  reads_as : (ms : List Method) (rs : List Reading) → AllZip (ReadsIn z set) ms rs
-      → AllZip (ReadsAs z es (table_codes set.tables.items)) ms rs
+  reads_as : (ms : List Kept) (rs : List Reading) → AllZip (ReadsIn z set) ms rs
+      → AllZip (ReadsAs z es (table_codes set.tables.items)) (methods_in set.space ms) rs
   reads_as [] [] h = tt
   reads_as [] (r ∷ rs) h = absurd h
   reads_as (m ∷ ms) [] h = absurd h

@@ -13,8 +13,8 @@ use Rattle.aml_names.specs.declared.segments.Seg.{Seg}
 use Rattle.aml_namespace.specs.Known.{Declared}
 use Rattle.aml_namespace.specs.declared.kinds.Kind.{Kind}
 use Rattle.aml_namespace.specs.declared.kinds.Kind.TheVariants as kinds
-use Rattle.aml_set.specs.Views.{table_dumps}
-use Rattle.aml_set.specs.declared.methods.Method.{Method}
+use Rattle.aml_set.specs.Methods.{Method}
+use Rattle.aml_set.specs.Views.{methods_of_set, table_dumps}
 use Rattle.aml_set.specs.declared.tables.TableSet.{TableSet}
 use Rattle.aml_text.specs.Rows.{path_text}
 use Rattle.asl_text.specs.Texts.{all_lines}
@@ -193,5 +193,5 @@ AreRead false z set v = AreValues body_text body_value [] v
 pub record AreIn (bodies z : Bool) (set : TableSet) (x : Contents) : Type 0 where
   pub tables : x.tables.items ≡ table_dumps set.tables.items
   pub rows : AreValues row_text row_value (map.entries set.space.declarations) x.rows
-  pub methods : AreValues method_text method_value set.methods.items x.methods
+  pub methods : AreValues method_text method_value (methods_of_set set) x.methods
   pub read : AreRead bodies z set x.bodies

@@ -2,6 +2,8 @@
 ghost use Rattle.std.specs.Prelude.{◌≡◌, ◌++◌, length, map as map_list, flat_map, cond, IfOk, IfErr, OnOk};
 ghost use Rattle.std.specs.FinMap as map;
 ghost use Rattle.aml_text.specs.Rows.{path_text};
+ghost use Rattle.aml_set.specs.Methods.{method_in};
+ghost use Rattle.aml_set.specs.Views.{methods_of_set};
 ghost use Rattle.acpidis_c.specs.States.{IsNoMemory};
 ghost use Rattle.acpidis_c.specs.Contents.{AreValues, arguments_of, kind_number, target_text, row_text, row_value};
 ghost use Rattle.acpidis_c.specs.Contents.{method_text, method_value, kept_text, kept_value, body_number, body_offset};
@@ -9,7 +11,7 @@ ghost use Rattle.acpidis_c.specs.Contents.{method_text, method_value, kept_text,
 use crate::code::{Ended, Fault};
 use crate::contents::{BodyValue, MethodValue, RowValue, Values};
 use aml_names::{CodeFault, Seg};
-use aml_set::Method;
+use aml_set::{Method, TableSet};
 use aml_space::{Kind, Row, Space};
 use asl_text::print_segments;
 use std::alloc::Global;
@@ -99,7 +101,7 @@ fn row_value(alloc: Global, texts: &mut Vec<u8>, row: &Row<'_>) -> Result<RowVal
     ensures stops { IfErr result IsNoMemory }
 {
     let at = texts.len();
-    let path = row.path(alloc)?;
+    let path = row.path().to_path(alloc)?;
     put_path(texts, path.segs())?;
     let target = texts.len();
     put_target(alloc, texts, row.kind())?;
@@ -128,14 +130,20 @@ pub(crate) fn rows_of(alloc: Global, space: &Space) -> Result<Values<RowValue>, 
     Ok(Values { items, texts })
 }
 
-/// The value of a method, whose path is put behind others.
-fn method_value(alloc: Global, texts: &mut Vec<u8>, method: &Method) -> Result<MethodValue, Fault>
-    ensures value { IfOk result (λ value. value ≡ method_value (length texts.old.items) method.now) }
-    ensures put { OnOk result (texts.new.items ≡ texts.old.items ++ method_text method.now) }
+/// The value of a method of a space, whose path is put behind others.
+fn method_value(
+    alloc: Global,
+    texts: &mut Vec<u8>,
+    space: &Space,
+    method: &Method,
+) -> Result<MethodValue, Fault>
+    ensures value { IfOk result (λ value.
+        value ≡ method_value (length texts.old.items) (method_in space.now method.now)) }
+    ensures put { OnOk result (texts.new.items ≡ texts.old.items ++ method_text (method_in space.now method.now)) }
     ensures stops { IfErr result IsNoMemory }
 {
     let at = texts.len();
-    let path = method.path.parts().behind(alloc, 0)?;
+    let path = space.path(method.path).to_path(alloc)?;
     put_path(texts, path.segs())?;
     Ok(MethodValue {
         at,
@@ -147,15 +155,18 @@ fn method_value(alloc: Global, texts: &mut Vec<u8>, method: &Method) -> Result<M
     })
 }
 
-/// Methods in their order.
-pub(crate) fn methods_of(alloc: Global, methods: &[Method]) -> Result<Values<MethodValue>, Fault>
-    ensures methods { IfOk result (AreValues method_text method_value methods.now) }
+/// The methods of a set, in their order.
+pub(crate) fn methods_of(
+    alloc: Global,
+    set: &TableSet<'_>,
+) -> Result<Values<MethodValue>, Fault>
+    ensures methods { IfOk result (AreValues method_text method_value (methods_of_set set.now)) }
     ensures stops { IfErr result IsNoMemory }
 {
     let mut items = Vec::new(alloc);
     let mut texts = Vec::new(alloc);
-    for method in methods {
-        items.push(method_value(alloc, &mut texts, method)?)?;
+    for method in &set.methods {
+        items.push(method_value(alloc, &mut texts, &set.space, method)?)?;
     }
     Ok(Values { items, texts })
 }

@@ -1,5 +1,5 @@
 -- What a loaded set is the load of, and what the bodies of its methods read as.
-use Rattle.std.specs.Prelude.{◌≡◌, ℕ, List, [], slice_index_or, Option, Some, None, ◌≢◌, Bool, ◌⊎◌}
+use Rattle.std.specs.Prelude.{◌≡◌, ℕ, List, [], slice_index_or, ◌≢◌, Bool, ◌⊎◌}
 use Rattle.std.specs.Prelude.{Result, Ok, Err}
 use Rattle.aml_code.specs.Tree.{Trees, slice_of}
 use Rattle.aml_namespace.specs.Known.{Known, StandsFor}
@@ -69,8 +69,3 @@ pub record ReadsBy (unknown_zero : Bool) (k : Known) (bytes : List ℕ) (m : Met
   pub lawful : (arity : Arities) × ReadsBody arity m.path bytes ts
   pub reading : (tables : List (List ℕ)) → bytes ≡ span_of tables m → (es : List Entry) → StandsFor k es
       → IsReading (λ (read : Trees). read) unknown_zero es tables m (Ok ts)
-
--- a fact of the method with this number, if there is one
-abbrev pub OfMethod : Option Method → (Method → Type 0) → Type 0
-OfMethod None P = Unit {0}
-OfMethod (Some m) P = P m

@@ -1,8 +1,7 @@
 -- Where numbers stand for the same paths, the methods that have them have the same paths (`same_methods`) and numbers
 -- still (`still_numbered`), as one more does (`one_numbered`, `one_method`); and as many are kept (`as_many`).
-use Rattle.std.proofs.Common.{◌≡◌, ℕ, ◌<◌, List, [], ◌∷◌, ◌++◌, length, get_or, refl, sym, ap, ◌∙◌}
-use Rattle.std.proofs.lemmas.List.{length-map, map_push}
-use Rattle.std.proofs.lemmas.List.Elements.{all_by_recursion_push}
+use Rattle.std.proofs.Common.{◌≡◌, ℕ, ◌<◌, List, [], ◌∷◌, ◌++◌, length, refl, ap, ◌∙◌}
+use Rattle.std.proofs.lemmas.List.{get_or_default, length-map, map_push}
 use Rattle.std.proofs.lemmas.Option.{slice_get_read, slice_get_within, get_or_from_slice_get}
 use Rattle.aml_names.specs.declared.segments.Seg.{Seg}
 use Rattle.aml_namespace.specs.Known.{Known, StandsAt, path_at}
@@ -16,10 +15,7 @@ Keeps old new = (id : ℕ) (p : List Seg) → StandsAt old id p → StandsAt new
 module _ (old new : Known) (keeps : Keeps old new) where
   still_at : (id : ℕ) → id < length old.paths → StandsAt new id (path_at old id)
   still_at id within = keeps id (path_at old id)
-      (slice_get_read old.paths (length old.paths) id (path_at old id) refl within (sym (same id within)))
-    where
-      same : (id : ℕ) → id < length old.paths → get_or old.paths id (path_at old id) ≡ path_at old id
-      same id within = grind
+      (slice_get_read old.paths (length old.paths) id (path_at old id) refl within (get_or_default old.paths id [] (path_at old id) within))
 
   pub still_numbered : (ms : List Kept) → AreNumbered old ms → AreNumbered new ms
   still_numbered [] all = tt
@@ -35,7 +31,8 @@ module _ (old new : Known) (keeps : Keeps old new) where
 
 pub one_numbered : (k : Known) (ms : List Kept) (m : Kept) → m.path < length k.paths → AreNumbered k ms
     → AreNumbered k (ms ++ m ∷ [])
-one_numbered k ms m within all = all_by_recursion_push (λ m. m.path < length k.paths) ms m all within
+one_numbered k [] m within all = (within, tt)
+one_numbered k (first ∷ ms) m within all = (all.0, one_numbered k ms m within all.1)
 
 pub one_method : (k : Known) (ms : List Kept) (m : Kept) → methods_in k (ms ++ m ∷ []) ≡ methods_in k ms ++ method_in k m ∷ []
 one_method k ms m = map_push (method_in k) ms m

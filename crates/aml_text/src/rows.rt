@@ -9,7 +9,7 @@ ghost use Rattle.aml_text.specs.Rows.{path_text, kind_text, maybe_text, times_te
 ghost use Rattle.aml_text.specs.Rows.{namespace_text};
 
 use aml_names::{Parts, Seg};
-use aml_space::{Kind, Row, Rows, Space, Target};
+use aml_space::{Kind, Row, Rows, Space, SpacePath, Target};
 use asl_text::{print_indent, print_segments};
 use std::io::Write;
 use text_writer::{Out, print_decimal};
@@ -116,18 +116,18 @@ fn print_marks<W: Write>(out: &mut Out<'_, W>, sure: bool, times: usize)
     print_times(out, times);
 }
 
-/// The path of a row, as many segments at a time as a window takes, so that it needs no memory of its own.
-fn print_row_path<W: Write>(out: &mut Out<'_, W>, row: &Row<'_>, window: &mut [Seg])
+/// A path, as many segments at a time as a window takes, so that it needs no memory of its own.
+fn print_row_path<W: Write>(out: &mut Out<'_, W>, path: &SpacePath<'_>, window: &mut [Seg])
     requires room { 1 ≤ length window.old }
-    ensures text { Prints W.contents out.old out.new (path_text row.now.0) }
+    ensures text { Prints W.contents out.old out.new (path_text path.now) }
     ensures long { length window.new ≡ length window.old }
 {
-    let depth = row.depth();
-    let mut done = row.copy_segs(0, window);
+    let depth = path.depth();
+    let mut done = path.copy_segs(0, window);
     print_root(out);
     print_segments(out, &window[..done]);
     while done < depth {
-        let count = row.copy_segs(done, window);
+        let count = path.copy_segs(done, window);
         out.put(b".");
         print_segments(out, &window[..count]);
         done += count;
@@ -150,7 +150,7 @@ fn print_marked<W: Write>(out: &mut Out<'_, W>, row: &Row<'_>, window: &mut [Seg
     ensures text { Prints W.contents out.old out.new (marked_text row.now) }
     ensures long { length window.new ≡ length window.old }
 {
-    print_row_path(out, row, window);
+    print_row_path(out, &row.path(), window);
     print_said(out, row);
 }
 
@@ -203,7 +203,7 @@ fn print_lines<W: Write>(out: &mut Out<'_, W>, rows: Rows<'_>)
     let mut window = [Seg::default(); SMALL_WINDOW];
     let mut left = rows;
     'rows: while let Some(row) = left.next() {
-        if row.depth() > SMALL_WINDOW {
+        if row.path().depth() > SMALL_WINDOW {
             return print_deep(out, &row, left);
         }
         print_row(out, &row, &mut window);

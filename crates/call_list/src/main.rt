@@ -44,10 +44,11 @@ fn calls_in<R: Threads + Wait + Sync>(
 fn calls_of(alloc: Global, listing: &Listing<'_>) -> Result<String, AllocError> {
     let mut text = String::new(alloc);
     for (method, body) in listing.loaded.methods.iter().zip(listing.bodies.iter()) {
-        let path = method.path.to_path(alloc)?;
+        let space = &listing.loaded.space;
+        let path = space.path(method.path).to_path(alloc)?;
         let caller = Caller {
             alloc,
-            space: &listing.loaded.space,
+            space,
             path: &path,
         };
         if let Body::Tree(nodes) = body {

@@ -10,7 +10,7 @@ use Rattle.aml_text.proofs.rows.print_row_path.Goals as goal
 pub loop-done-preserved : goal.loop-done-preserved
 loop-done-preserved g c =
     let f = g.W.Write.contents in
-    let p = c.args.row.now.0 in
+    let p = c.args.path.now in
     let d = c.loop-done.done in
     let n = c.copy_segs-count.result in
     let inv = c.loop-done.invariant in
@@ -39,4 +39,4 @@ pub returns-clause-text : goal.returns-clause-text
 unfolding path_text
 returns-clause-text g c =
     subst (λ segs. Prints g.W.Write.contents c.args.out.now c.loop-done.out (word "\\" ++ dotted segs))
-    (take_all c.loop-done.done c.args.row.now.0 (omega (arith, c.loop-done-test.false, c.depth-depth.ensures))) c.loop-done.invariant.text
+    (take_all c.loop-done.done c.args.path.now (omega (arith, c.loop-done-test.false, c.depth-depth.ensures))) c.loop-done.invariant.text

@@ -8,7 +8,7 @@ invariant-loop-done g l = record {
   within : l.done ≤ l.depth;
   some : l.done < l.depth → 1 ≤ l.done;
   long : length l.window ≡ length l.initial.window;
-  text : Prints g.W.Write.contents l.fn.out l.out (word "\\" ++ separated (word ".") (map segment_text (take l.done l.row.0)));
+  text : Prints g.W.Write.contents l.fn.out l.out (word "\\" ++ separated (word ".") (map segment_text (take l.done l.path)));
 }
 
 abbrev pub decreases-loop-done : goal.decreases-loop-done
