@@ -31,7 +31,7 @@ use Rattle.std.proofs.lemmas.Option.{slice_get_within, get_or_from_slice_get}
 use Rattle.aml_namespace.specs.Known.{path_at}
 use Rattle.aml_set.specs.declared.methods.Method.{Method as Kept}
 use Rattle.aml_set.specs.Methods.{Method, method_in, methods_in, AreNumbered}
-use Rattle.aml_set.proofs.MethodLaws.{one_method, one_numbered, same_methods, still_numbered}
+use Rattle.aml_set.proofs.MethodLaws.{as_many, one_method, one_numbered, same_methods, still_numbered}
 use Rattle.aml_load.specs.declared.walking.Progress.{Progress}
 use Rattle.aml_load.specs.Declaring.{◌>>=◌, Listed, plus, with_uses, term_uses, place_at, entry_at, new_at, units_at}
 use Rattle.aml_load.specs.Declaring.{declare_as, declare, declare_inside}
@@ -50,6 +50,10 @@ methods_more (e ∷ es) x = by (method_of e) (methods_more es x)
         → cons_option o (methods_of (es ++ x ∷ [])) ≡ cons_option o (methods_of es) ++ methods_of (x ∷ [])
     by None more = more
     by (Some m) more = ap (λ (ms : List Method). m ∷ ms) more
+
+-- as many methods are listed as are kept
+pub as_many_held : (p : Progress) (l : Listed) → Holds p l → length (methods_of l.entries) ≡ length p.methods.items
+as_many_held p l h = sym (ap length h.methods) ∙ as_many p.space p.methods.items
 
 -- the uses are grouped as they were
 grouped_as : (old new : Progress) → KeepsUses old new → AreIn old.space.scopes old.uses

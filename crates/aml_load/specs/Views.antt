@@ -1,5 +1,5 @@
 -- What a loaded set is the load of, and what the bodies of its methods read as.
-use Rattle.std.specs.Prelude.{◌≡◌, ℕ, List, [], slice_index_or, ◌≢◌, Bool, ◌⊎◌}
+use Rattle.std.specs.Prelude.{◌≡◌, ℕ, List, [], slice_index_or, Some, ◌≢◌, Bool, ◌⊎◌}
 use Rattle.std.specs.Prelude.{Result, Ok, Err}
 use Rattle.aml_code.specs.Tree.{Trees, slice_of}
 use Rattle.aml_namespace.specs.Known.{Known, StandsFor}

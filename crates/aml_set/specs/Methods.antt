@@ -1,4 +1,5 @@
--- The methods of a set of tables (ACPI 6.5, 19.6.85), and the methods as they are kept, by the numbers of their paths.
+-- The methods of a set of tables (ACPI 6.5, 19.6.85), and those that the program keeps (`Kept`), by the numbers of their
+-- paths.
 use Rattle.std.specs.Prelude.{ℕ, ◌<◌, List, [], length, map, slice_index_or}
 use Rattle.std.specs.List.{AllByRecursion}
 use Rattle.aml_names.specs.declared.segments.Seg.{Seg}
@@ -19,7 +20,7 @@ pub record Method : Type 0 where
 abbrev pub span_of : List (List ℕ) → Method → List ℕ
 span_of tables m = slice_of (slice_index_or tables m.table []) m.start m.len
 
--- a method that is kept, by what is known of paths
+-- a method that is kept, by the paths of a space
 abbrev pub method_in : Known → Kept → Method
 method_in k m = record { path = path_at k m.path; table = m.table; start = m.start; len = m.len; flags = m.flags }
 

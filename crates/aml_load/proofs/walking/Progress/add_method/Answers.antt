@@ -1,7 +1,20 @@
-use Rattle.std.proofs.Common.{rules}
-use Rattle.aml_load.specs.Declaring.{method_at}
+use Rattle.std.proofs.Common.{◌≡◌, nat_le, length, true, false, refl, inr, arith}
+use Rattle.std.proofs.lemmas.Bool.Decides.{nat_tests}
+use Rattle.aml_load.specs.Declaring.{most_methods, method_at}
+use Rattle.aml_load.specs.Loading.{methods_of}
+use Rattle.aml_load.proofs.Holding.{as_many_held}
 use Rattle.aml_load.proofs.walking.Progress.add_method.Goals as goal
 
-pub returns-then-len-ge-MAX_METHODS : goal.returns-then-len-ge-MAX_METHODS
+pub returns-then-len-ge-MAX_METHODS-clause-walks : goal.returns-then-len-ge-MAX_METHODS-clause-walks
 unfolding method_at
-returns-then-len-ge-MAX_METHODS c = search rules
+returns-then-len-ge-MAX_METHODS-clause-walks c l h =
+    let full : nat_le most_methods (length (methods_of l.entries)) ≡ true =
+    grind (arith, nat_tests, as_many_held c.args.self.now l h, c.len.ensures, c.if-len-ge-MAX_METHODS.true) in
+    inr (rw full refl)
+
+pub returns-clause-walks : goal.returns-clause-walks
+unfolding method_at
+returns-clause-walks c l h =
+    let room : nat_le most_methods (length (methods_of l.entries)) ≡ false =
+    grind (arith, nat_tests, as_many_held c.args.self.now l h, c.len.ensures, c.if-len-ge-MAX_METHODS.false) in
+    rw room (c.declare_method.ensures.walks l h)
