@@ -121,7 +121,7 @@ fn contents_in(
     Ok(Contents {
         tables: dumps_of(alloc, set.tables.as_slice())?,
         rows: rows_of(alloc, &set.space)?,
-        methods: methods_of(alloc, set)?,
+        methods: methods_of(alloc, &set.space, set.methods.as_slice())?,
         bodies: bodies_in(alloc, set, options.unknown_zero, bodies)?,
     })
 }

@@ -2,8 +2,7 @@
 ghost use Rattle.std.specs.Prelude.{◌≡◌, ◌++◌, length, map as map_list, flat_map, cond, IfOk, IfErr, OnOk};
 ghost use Rattle.std.specs.FinMap as map;
 ghost use Rattle.aml_text.specs.Rows.{path_text};
-ghost use Rattle.aml_set.specs.Methods.{method_in};
-ghost use Rattle.aml_set.specs.Views.{methods_of_set};
+ghost use Rattle.aml_set.specs.Methods.{method_in, methods_in};
 ghost use Rattle.acpidis_c.specs.States.{IsNoMemory};
 ghost use Rattle.acpidis_c.specs.Contents.{AreValues, arguments_of, kind_number, target_text, row_text, row_value};
 ghost use Rattle.acpidis_c.specs.Contents.{method_text, method_value, kept_text, kept_value, body_number, body_offset};
@@ -11,7 +10,7 @@ ghost use Rattle.acpidis_c.specs.Contents.{method_text, method_value, kept_text,
 use crate::code::{Ended, Fault};
 use crate::contents::{BodyValue, MethodValue, RowValue, Values};
 use aml_names::{CodeFault, Seg};
-use aml_set::{Method, TableSet};
+use aml_set::Method;
 use aml_space::{Kind, Row, Space};
 use asl_text::print_segments;
 use std::alloc::Global;
@@ -155,18 +154,19 @@ fn method_value(
     })
 }
 
-/// The methods of a set, in their order.
+/// Methods of a space in their order.
 pub(crate) fn methods_of(
     alloc: Global,
-    set: &TableSet<'_>,
+    space: &Space,
+    methods: &[Method],
 ) -> Result<Values<MethodValue>, Fault>
-    ensures methods { IfOk result (AreValues method_text method_value (methods_of_set set.now)) }
+    ensures methods { IfOk result (AreValues method_text method_value (methods_in space.now methods.now)) }
     ensures stops { IfErr result IsNoMemory }
 {
     let mut items = Vec::new(alloc);
     let mut texts = Vec::new(alloc);
-    for method in &set.methods {
-        items.push(method_value(alloc, &mut texts, &set.space, method)?)?;
+    for method in methods {
+        items.push(method_value(alloc, &mut texts, space, method)?)?;
     }
     Ok(Values { items, texts })
 }

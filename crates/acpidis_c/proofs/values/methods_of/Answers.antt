@@ -8,8 +8,8 @@ use Rattle.acpidis_c.proofs.values.methods_of.Goals as goal
 
 pub loop-method-preserved : goal.loop-method-preserved
 loop-method-preserved c =
-    let k = c.args.set.now.space in
-    let xs = c.args.set.now.methods.items in
+    let k = c.args.space.now in
+    let xs = c.args.methods.now in
     let n = c.loop-method.method-index in
     let x = c.method-item.result in
     let next : methods_in k (take (n + 1) xs) ≡ methods_in k (take n xs) ++ method_in k x ∷ [] =

@@ -6,4 +6,4 @@ use Rattle.acpidis_c.proofs.values.methods_of.Given as goal
 
 abbrev pub invariant-loop-method : goal.invariant-loop-method
 invariant-loop-method l =
-    AreFirst method_text method_value (methods_in l.set.space (take l.method-index l.set.methods.items)) l.items.items l.texts.items
+    AreFirst method_text method_value (methods_in l.space (take l.method-index l.methods)) l.items.items l.texts.items
