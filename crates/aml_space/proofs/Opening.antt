@@ -1,6 +1,6 @@
--- Scopes that were opened lead to their nodes also where paths keep theirs (`kept_opened`), as they do where other
+-- Scopes that are open lead to their nodes also where paths keep theirs (`kept_opened`), as they do where other
 -- content comes to a node (`content_kept`), and by one step behind another (`kept_on`); and so does one more
--- (`more_opened`), and the root (`root_opened`). Numbers stand for the same paths then (`known_again`); a path's is its
+-- (`more_opened`). Their nodes' numbers are theirs (`open_number`). Numbers stand for the same paths then (`known_again`); a path's is its
 -- node's (`numbered`). The node of what an Alias stands for is told by its source (`aim_kept`, `aim_here`).
 use Rattle.std.specs.Prelude.{slice_get}
 use Rattle.std.specs.FinMap as map
@@ -16,8 +16,8 @@ use Rattle.aml_names.specs.declared.segments.Seg.{Seg}
 use Rattle.aml_space.specs.declared.nodes.Node.{Node}
 use Rattle.aml_space.specs.declared.opened.Opened.{Opened}
 use Rattle.aml_children.specs.Numbered.{walk}
-use Rattle.std.specs.Option.{option_or, option_and_then, unwrap_or}
-use Rattle.std.proofs.lemmas.Option.{slice_get_read}
+use Rattle.std.specs.Option.{option_map, option_or, option_and_then, unwrap_or}
+use Rattle.std.proofs.lemmas.Option.{slice_get_read, slice_get-map}
 use Rattle.aml_namespace.specs.declared.kinds.Kind.{Kind}
 use Rattle.aml_namespace.specs.declared.kinds.Kind.TheVariants.{Alias}
 use Rattle.aml_namespace.specs.Namespace.{kind_at}
@@ -73,13 +73,12 @@ more_paths old new was is kept =
     sym (take-append-drop n (paths_in new)) ∙ ap (λ ps. ps ++ drop n (paths_in new)) front
 
 -- so what is kept besides the nodes stays right
-pub still_space : (old new : List Node) (before many : ℕ) (marked inside : List Opened) (ways : Ways) → IsIndex new
+pub still_space : (old new : List Node) (before many : ℕ) (inside : List Opened) (ways : Ways) → IsIndex new
     → IsKept old new → many ≡ length (map.entries (known_by new).declarations)
-    → IsSpace old before marked inside ways → IsSpace new many marked inside ways
-still_space old new before many marked inside ways index kept rows is = record {
+    → IsSpace old before inside ways → IsSpace new many inside ways
+still_space old new before many inside ways index kept rows is = record {
   index = index;
   rows = rows;
-  opened = kept_opened old new marked kept is.opened;
   scopes = kept_opened old new inside kept is.scopes;
   ways = ways_kept old new ways is.index kept is.ways;
 }
@@ -98,6 +97,23 @@ numbered ns is path at led =
     let within = node_range is.shape path at led in
     slice_get_read (paths_in ns) (length ns) at path (sym (length-map-range_with_len (path_of ns) 0 (length ns))) within
     (sym (get_or-map-range_with_len (path_of ns) 0 (length ns) at at path within (omega arith) ∙ path_led ns is path at led))
+
+-- the number of a scope that is open stands for its path
+pub open_number : (ns : List Node) (scopes : List Opened) (k : Known) (place : ℕ) (o : Opened) (scope : List Seg) → IsIndex ns
+    → AreOpened ns scopes → known_in ns scopes ≡ k → slice_get scopes place ≡ Some o → slice_get k.scopes place ≡ Some scope
+    → slice_get k.paths o.node ≡ Some scope
+open_number ns scopes k place o scope is are same there stands =
+    let led : walk (kids_of ns) 0 o.scope ≡ Some o.node =
+    subst (λ x. IfSome x (λ o. walk (kids_of ns) 0 o.scope ≡ Some o.node)) there (are place) in
+    let here : Some o.scope ≡ Some scope = sym (slice_get-map (λ (o : Opened). o.scope) scopes place ∙ ap (option_map (λ (o : Opened). o.scope)) there)
+    ∙ ap (λ (k : Known). slice_get k.scopes place) same ∙ stands in
+    ap (λ (k : Known). slice_get k.paths o.node) (sym same) ∙ numbered ns is o.scope o.node led ∙ here
+
+-- and it is one of a node
+pub open_node : (ns : List Node) (scopes : List Opened) (place : ℕ) (o : Opened) → IsIndex ns → AreOpened ns scopes
+    → slice_get scopes place ≡ Some o → o.node < length ns
+open_node ns scopes place o is are there =
+    node_range is.shape o.scope o.node (subst (λ x. IfSome x (λ o. walk (kids_of ns) 0 o.scope ≡ Some o.node)) there (are place))
 
 -- one scope more is open
 pub more_scopes : (opened more : List Opened) (o : Opened) → more ≡ opened ++ o ∷ []
@@ -142,12 +158,6 @@ none_opened ns none empty = λ i. subst (λ all. IfSome (slice_get all i) (λ o.
     at : (i : ℕ) → IfSome (slice_get [] i) (λ (o : Opened). walk (kids_of ns) 0 o.scope ≡ Some o.node)
     at zero = tt
     at (suc i) = tt
-
--- the root alone
-pub root_opened : (ns : List Node) (none one : List Opened) (o : Opened) → none ≡ [] → one ≡ none ++ o ∷ []
-    → o.scope ≡ [] → o.node ≡ 0 → AreOpened ns one
-root_opened ns none one o empty is root first = more_opened ns none one o is (none_opened ns none empty)
-    (ap (walk (kids_of ns) 0) root ∙ ap (λ (n : ℕ). Some n) (sym first))
 
 fewer : (m n : ℕ) (xs : List Seg) → m ≤ n → take m (take n xs) ≡ take m xs
 fewer zero n xs h = refl

@@ -1,4 +1,4 @@
--- A stepping stone of the proofs: the scopes that were opened, with their nodes.
+-- A stepping stone of the proofs: the scopes that are open, with their nodes.
 use Rattle.std.specs.Prelude.{◌≡◌, ℕ, List, length, map as map_list, slice_get, Some, IfSome}
 use Rattle.std.specs.List.{range_with_len}
 use Rattle.std.specs.FinMap as map
@@ -31,15 +31,12 @@ known_in ns scopes = with_paths (with_scopes (known_by ns) (scopes_of scopes)) (
 
 -- what is kept besides the nodes is right
 pub record AreHints (ns : List Node) (h : Hints) : Type 0 where
-  pub opened : AreOpened ns h.opened.now
   pub scopes : AreOpened ns h.scopes.now
   pub steps : AreSteps ns h.steps.now
 
--- nodes with the number of the paths that are declared, the scopes that were opened, those that are open, and the ways
--- up
-pub record IsSpace (ns : List Node) (many : ℕ) (marked inside : List Opened) (upward : Ways) : Type 0 where
+-- nodes with the number of the paths that are declared, the scopes that are open, and the ways up
+pub record IsSpace (ns : List Node) (many : ℕ) (inside : List Opened) (upward : Ways) : Type 0 where
   pub index : IsIndex ns
   pub rows : many ≡ length (map.entries (known_by ns).declarations)
-  pub opened : AreOpened ns marked
   pub scopes : AreOpened ns inside
   pub ways : AreWays ns upward

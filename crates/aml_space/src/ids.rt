@@ -1,5 +1,5 @@
 //! Paths by number.
-ghost use Rattle.std.specs.Prelude.{◌≡◌, ◌<◌, ◌^◌, ◌-◌, length, take, drop, min, get_or, [], IfOk};
+ghost use Rattle.std.specs.Prelude.{◌≡◌, ◌<◌, ◌^◌, ◌-◌, length, take, drop, min, nat_eq, get_or, [], IfOk};
 ghost use Rattle.aml_space.specs.Nodes.{path_of, IsIndex};
 ghost use Rattle.aml_space.specs.Opened.{paths_in};
 
@@ -39,6 +39,13 @@ impl PathId {
         ensures { result ≡ number }
     {
         PathId(number as u32)
+    }
+
+    /// Whether it is the same number.
+    pub fn is(self, other: PathId) -> bool
+        ensures { result ≡ nat_eq self other }
+    {
+        self.0 == other.0
     }
 
     /// The place of the node.

@@ -1,14 +1,13 @@
-//! The scopes that were opened, by whose nodes the paths below them are found.
-ghost use Rattle.std.specs.Prelude.{◌≡◌, ◌+◌, ◌<◌, ◌≤◌, ◌++◌, [], Bool, List, Some, length, take, IfOk, IfSome};
+//! The scopes that are open, by whose nodes the paths below them are found.
+ghost use Rattle.std.specs.Prelude.{◌≡◌, ◌+◌, ◌<◌, ◌≤◌, ◌++◌, Bool, List, Some, length, take, IfOk, IfSome};
 ghost use Rattle.aml_names.specs.declared.segments.Seg.{Seg as AnySeg};
-ghost use Rattle.aml_space.specs.declared.nodes.Node.{Node as AnyNode};
 ghost use Rattle.aml_children.specs.Numbered.{walk};
 ghost use Rattle.aml_namespace.specs.declared.kinds.Kind.TheVariants.{Alias};
 ghost use Rattle.aml_namespace.specs.Known.{namespace_in};
 ghost use Rattle.aml_space.specs.Nodes.{kids_of, links_of, known_by, IsAim, IsIndex, Reaches};
 ghost use Rattle.aml_space.specs.Candidates.{AreSteps};
 ghost use Rattle.aml_space.specs.Near.{IsOpen, IsNear, IsBelow, IsTarget, IsSourceOf};
-ghost use Rattle.aml_space.specs.Opened.{AreHints, AreOpened, scopes_of};
+ghost use Rattle.aml_space.specs.Opened.{AreHints, scopes_of};
 
 use crate::growing::{Aimed, Reach};
 use crate::ids::PathId;
@@ -16,11 +15,11 @@ use crate::nodes::Node;
 use crate::parents::link;
 use crate::walking::{aim_at, child, kind_at};
 use crate::ways::stepped;
-use aml_names::{NoMemory, Parts, Path, ScopedPath, Seg};
+use aml_names::{NoMemory, Parts, ScopedPath, Seg};
 use aml_namespace::Kind;
 use std::alloc::Global;
 
-/// A scope that was opened, and its node.
+/// A scope that is open, and its node.
 #[derive(Drop)]
 pub(crate) struct Opened {
     pub scope: ScopedPath,
@@ -28,21 +27,6 @@ pub(crate) struct Opened {
     /// How many segments the paths that are kept in it take at most, and those that are kept in the scopes around it of
     /// which it is no copy.
     pub owed: usize,
-}
-
-impl Opened {
-    /// The root.
-    pub(crate) fn root(alloc: Global) -> Result<Opened, NoMemory>
-        ensures scope { IfOk result (λ root. root.scope ≡ []) }
-        ensures node { IfOk result (λ root. root.node ≡ 0) }
-    {
-        let scope = ScopedPath::whole(alloc, Path::root(alloc))?;
-        Ok(Opened {
-            scope,
-            node: 0,
-            owed: 0,
-        })
-    }
 }
 
 /// How many first segments a path has in common with a scope that is open, so that it is found from there.
@@ -120,24 +104,17 @@ pub struct Source<'a> {
 /// What is kept besides the nodes, by which they are found sooner.
 #[derive(Clone, Copy)]
 pub(crate) struct Hints<'a> {
-    /// The scopes that were opened and by which something is kept.
-    pub opened: &'a [Opened],
-    /// Those that are open.
+    /// The scopes that are open.
     pub scopes: &'a [Opened],
     pub steps: &'a [PathId],
 }
 
 impl<'a> Hints<'a> {
-    pub(crate) fn new(opened: &'a [Opened], scopes: &'a [Opened], steps: &'a [PathId]) -> Hints<'a>
-        ensures opened { result.opened.now ≡ opened.now }
+    pub(crate) fn new(scopes: &'a [Opened], steps: &'a [PathId]) -> Hints<'a>
         ensures scopes { result.scopes.now ≡ scopes.now }
         ensures steps { result.steps.now ≡ steps.now }
     {
-        Hints {
-            opened,
-            scopes,
-            steps,
-        }
+        Hints { scopes, steps }
     }
 }
 
@@ -226,22 +203,6 @@ fn reach_above(nodes: &[Node], reach: Reach) -> Reach
     }
 }
 
-/// How far a path leads with what it has in common with its scope, where this was opened.
-fn reach_of_scope(nodes: &[Node], hints: Hints<'_>, path: &Parts<'_>) -> Reach
-    requires index { IsIndex nodes.now }
-    requires hints { AreHints nodes.now hints }
-    ensures led { walk (kids_of nodes.now) 0 (take result.known path.now) ≡ Some result.node }
-    ensures within { result.known ≤ length path.now }
-{
-    match hints.opened.get(path.mark()) {
-        None => Reach { node: 0, known: 0 },
-        Some(near) => {
-            let known = path.common(&near.scope.parts());
-            reach_in(nodes, hints.steps, near, known, path)
-        }
-    }
-}
-
 /// How far a path leads with what it has in common with a scope that is open.
 fn reach_of_near(nodes: &[Node], hints: Hints<'_>, near: Near, path: &Parts<'_>) -> Reach
     requires index { IsIndex nodes.now }
@@ -256,14 +217,12 @@ fn reach_of_near(nodes: &[Node], hints: Hints<'_>, near: Near, path: &Parts<'_>)
     }
 }
 
-/// How far a path leads.
-pub(crate) fn reach_along(nodes: &[Node], hints: Hints<'_>, path: &Parts<'_>) -> Reach
-    requires index { IsIndex nodes.now }
-    requires hints { AreHints nodes.now hints }
+/// How far a path leads from the root.
+pub(crate) fn reach_whole(nodes: &[Node], path: &Parts<'_>) -> Reach
+    requires { IsIndex nodes.now }
     ensures { Reaches nodes.now path.now result }
 {
-    let reach = reach_of_scope(nodes, hints, path);
-    reach_on(nodes, reach, path)
+    reach_on(nodes, Reach { node: 0, known: 0 }, path)
 }
 
 /// How far a path leads that is near a scope that is open.
@@ -362,41 +321,17 @@ pub(crate) fn aimed_by(
     }
 }
 
-/// The path by which what stands in a scope is kept. It is copied, and what is kept by it is found by its node, or it
-/// keeps the segments of the scope around it.
+/// The path of a scope that is opened: a copy, or one that keeps the segments of the scope around it.
 pub(crate) fn keep_scope(
     alloc: Global,
-    nodes: &[Node],
-    opened: &mut Vec<Opened>,
     path: &ScopedPath,
-    node: usize,
     copied: bool,
 ) -> Result<ScopedPath, NoMemory>
-    requires opened { AreOpened nodes.now opened.old.items }
-    requires node { walk (kids_of nodes.now) 0 path.now ≡ Some node }
-    ensures opened { AreOpened nodes.now opened.new.items }
-    ensures scope { IfOk result (λ scope. scope ≡ path.now) }
+    ensures { IfOk result (λ scope. scope ≡ path.now) }
 {
-    if !copied {
-        return path.clone();
-    }
-    let marked = path.to_scope(alloc)?.marked(opened.len());
-    let scope = ScopedPath::of(alloc, marked);
-    opened.push(Opened {
-        scope: scope.clone()?,
-        node,
-        owed: 0,
-    })?;
-    Ok(scope)
-}
-
-/// Forgets a scope that is closed, if it was opened last, unless something is kept by it: a method's path, or a name
-/// that is looked at when all tables are there.
-pub(crate) fn forget_scope(opened: &mut Vec<Opened>, scope: &ScopedPath)
-    ensures { (nodes : List AnyNode) → AreOpened nodes opened.old.items → AreOpened nodes opened.new.items }
-{
-    // Its owners are the list of opened scopes, that of open ones, and the one who closes it.
-    if scope.mark() == opened.len().saturating_sub(1) && scope.owners() <= 3 {
-        opened.truncate(scope.mark());
+    if copied {
+        Ok(ScopedPath::of(alloc, path.to_scope(alloc)?))
+    } else {
+        path.clone()
     }
 }

@@ -9,7 +9,8 @@ ghost use Rattle.aml_namespace.specs.Namespace.{kind_at, count_at, namespace_of,
 ghost use Rattle.aml_namespace.specs.Runs.{outlook_of, sure_at, scope_in, open_in};
 ghost use Rattle.aml_space.specs.Nodes.{known_by};
 ghost use Rattle.aml_namespace.specs.Known.{Grows, StandsAt, path_at, with_scopes, of_paths};
-ghost use Rattle.aml_space.specs.Near.{IsNear, IsSourceOf};
+ghost use Rattle.aml_names.specs.declared.segments.Seg.{Seg as AnySeg};
+ghost use Rattle.aml_space.specs.Near.{IsNear, IsOpen, IsSourceOf};
 ghost use Rattle.aml_space.specs.Candidates.{path_in, names_of, outlook_at, IsScope};
 ghost use Rattle.aml_namespace.specs.Known.{StandsFor, nothing_known, once, with_declaration, with_declared};
 ghost use Rattle.aml_namespace.specs.Known.{with_again};
@@ -23,8 +24,7 @@ use crate::ids::{PathId, SpacePath};
 use crate::listing::{Rows, list_rows};
 use crate::nodes::Node;
 use crate::opened::{
-    Hints, Near, Opened, Source, aimed_by, forget_scope, keep_scope, node_near, owed_in,
-    reach_along, reach_near,
+    Hints, Near, Opened, Source, aimed_by, keep_scope, node_near, owed_in, reach_near,
 };
 use crate::rows::Row;
 use crate::scopes::{NEAR, Scope};
@@ -42,7 +42,6 @@ const LOOKS: usize = 8;
 macro_rules! hints_of {
     ($space:ident) => {
         Hints::new(
-            $space.opened.as_slice(),
             $space.scopes.as_slice(),
             $space.ways.steps.as_slice(),
         )
@@ -59,8 +58,6 @@ pub struct Space {
     pub(crate) predefined: Predefined,
     /// How many paths are declared.
     rows: usize,
-    /// The scopes that were opened and by which something is kept, so that what stands in them is found soon.
-    opened: Vec<Opened>,
     /// The scopes that are open, each inside those before it.
     scopes: Vec<Opened>,
     /// The ways up from some first nodes.
@@ -82,7 +79,7 @@ impl Model for Space {
 
     ghost view = { λ s. known_in s.nodes.items s.scopes.items };
 
-    ghost invariant = { λ s. IsSpace s.nodes.items s.rows s.opened.items s.scopes.items s.ways };
+    ghost invariant = { λ s. IsSpace s.nodes.items s.rows s.scopes.items s.ways };
 }
 
 impl Space {
@@ -93,14 +90,11 @@ impl Space {
     {
         let mut nodes = Vec::new(alloc);
         nodes.push(Node::empty(PathId::root(), Seg::default(), 0))?;
-        let mut opened = Vec::new(alloc);
-        opened.push(Opened::root(alloc)?)?;
         Ok(Space {
             alloc,
             nodes,
             predefined: Predefined::new(),
             rows: 0,
-            opened,
             scopes: Vec::new(alloc),
             ways: Ways::new(alloc),
             looked: 0,
@@ -160,15 +154,7 @@ impl Space {
             return Err(AllocError);
         }
         let aimed = aimed_by(self.nodes.as_slice(), hints, kind, source);
-        declare_first(
-            self.alloc,
-            &mut self.nodes,
-            hints,
-            path,
-            aimed,
-            surely,
-            reach,
-        )?;
+        declare_first(self.alloc, &mut self.nodes, path, aimed, surely, reach)?;
         self.rows += 1;
         Ok(true)
     }
@@ -209,7 +195,7 @@ impl Space {
             return Err(AllocError);
         }
         let aimed = aimed_by(self.nodes.as_slice(), hints, kind, source);
-        declare_first(self.alloc, &mut self.nodes, hints, path, aimed, sure, reach)?;
+        declare_first(self.alloc, &mut self.nodes, path, aimed, sure, reach)?;
         self.rows += 1;
         Ok(())
     }
@@ -263,6 +249,16 @@ impl Space {
         self.scopes.len()
     }
 
+    /// The number of the scope that is open at a place; the root's where none is.
+    pub fn open_scope(&self, place: usize) -> PathId
+        ensures { (scope : List AnySeg) → IsOpen self.now.scopes place scope → StandsAt self.now result scope }
+    {
+        match self.scopes.get(place) {
+            Some(scope) => PathId::new(scope.node),
+            None => PathId::root(),
+        }
+    }
+
     /// Opens a path as a scope inside those that are open, so that what stands there is found by its node. `most`: how
     /// many paths are kept in it at most, as a method's is; where they are few, a long path keeps its scope's segments,
     /// and nothing is copied. A refused call opens none.
@@ -283,14 +279,7 @@ impl Space {
         let reach = reach_near(self.nodes.as_slice(), hints, near, &parts);
         let node = extend(self.alloc, &mut self.nodes, &parts, reach)?;
         let owed = owed_in(self.scopes.as_slice(), near, path, most);
-        let scope = keep_scope(
-            self.alloc,
-            self.nodes.as_slice(),
-            &mut self.opened,
-            path,
-            node,
-            owed.is_none(),
-        )?;
+        let scope = keep_scope(self.alloc, path, owed.is_none())?;
         self.scopes.push(Opened {
             scope: scope.clone()?,
             node,
@@ -303,17 +292,7 @@ impl Space {
     pub fn leave(&mut self, count: usize)
         ensures { self.new ≡ with_scopes self.old (take count self.old.scopes) }
     {
-        self.forget_innermost();
         self.scopes.truncate(count);
-    }
-
-    /// Forgets the scope that is open inside all others, unless something is kept by it.
-    fn forget_innermost(&mut self)
-        ensures { self.new ≡ self.old }
-    {
-        if let Some(last) = self.scopes.last() {
-            forget_scope(&mut self.opened, &last.scope);
-        }
     }
 
     /// The number of a path, by which its node is found at once; it has one from now on. A refused call changes
@@ -485,20 +464,6 @@ impl Space {
         ensures listed { (es : List Entry) → StandsFor self.now es → result ≡ count_at (namespace_of es) path.now }
     {
         count_of(self.nodes.as_slice(), &self.predefined, path)
-    }
-
-    /// A scope of the space.
-    pub(crate) fn scope<'a>(&'a self, path: Parts<'a>) -> Scope<'a>
-        ensures scope { IsScope result }
-        ensures known { known_by result.nodes.now ≡ of_paths self.now }
-        ensures names { names_of result ≡ namespace_in self.now }
-        ensures outlook { outlook_at result ≡ outlook_in self.now }
-        ensures path { path_in result ≡ path.entry }
-    {
-        let nodes = self.nodes.as_slice();
-        let hints = hints_of!(self);
-        let reach = reach_along(nodes, hints, &path);
-        Scope::new(nodes, &self.ways, &self.predefined, path, reach)
     }
 
     /// A scope near one that is open.

@@ -3,17 +3,9 @@ use Rattle.aml_namespace.specs.Known.{Declared, once, with_declaration}
 use Rattle.aml_space.specs.Nodes.{known_by, IsAim, HasDeclared, IsIndex}
 use Rattle.aml_children.proofs.Walks.{node_range}
 use Rattle.aml_space.proofs.Index.{put_declared}
-use Rattle.aml_space.proofs.Opening.{content_kept, kept_on, kept_opened}
-use Rattle.aml_space.proofs.Stepping.{steps_kept}
+use Rattle.aml_space.proofs.Opening.{content_kept, kept_on}
 use Rattle.aml_space.proofs.growing.declare_first.Goals as goal
 use Rattle.aml_space.proofs.growing.declare_first.Goals.{After-set_declared}
-
-pub aim_of-requires-clause-hints : goal.aim_of-requires-clause-hints
-aim_of-requires-clause-hints c = record {
-  opened = kept_opened c.args.nodes.now.items c.extend.new.nodes.items c.args.hints.opened.now c.extend.ensures.kept c.requires.hints.opened;
-  scopes = kept_opened c.args.nodes.now.items c.extend.new.nodes.items c.args.hints.scopes.now c.extend.ensures.kept c.requires.hints.scopes;
-  steps = steps_kept c.args.nodes.now.items c.extend.new.nodes.items c.args.hints.steps.now c.extend.ensures.kept c.requires.hints.steps;
-}
 
 pub set_declared-requires : goal.set_declared-requires
 set_declared-requires c = node_range c.aim_of.ensures.index.shape c.args.path.now c.in_ok-at.at

@@ -37,7 +37,7 @@ reach_near-reach-requires-clause-near c = c.root.ensures.near _ _
 pub invariant_of-self-2 : goal.invariant_of-self-2
 invariant_of-self-2 c =
     let b = (goal.at.invariant_of-self-2 c).After-set_given in
-    still_space c.self.inside.nodes.items c.set_given.new.nodes.items c.self.inside.rows _ c.self.inside.opened.items
+    still_space c.self.inside.nodes.items c.set_given.new.nodes.items c.self.inside.rows _
     c.self.inside.scopes.items c.self.inside.ways (put b).0 (kept b)
     (c.self.invariant.rows ∙ ap (λ (k : Known). length (map.entries k.declarations)) (sym (put b).1)) c.self.invariant
 
@@ -49,6 +49,6 @@ returns-clause-stands c = λ es stands. stands_grown _ _ _ (returns-clause-ok c)
     (stands_given c.args.self.now es stands c.args.path.now c.args.count)
 
 pub invariant_of-self : goal.invariant_of-self
-invariant_of-self c = still_space c.self.inside.nodes.items c.extend.new.nodes.items c.self.inside.rows _ c.self.inside.opened.items
+invariant_of-self c = still_space c.self.inside.nodes.items c.extend.new.nodes.items c.self.inside.rows _
     c.self.inside.scopes.items c.self.inside.ways c.extend.ensures.index c.extend.ensures.kept
     (c.self.invariant.rows ∙ ap (λ (k : Known). length (map.entries k.declarations)) (sym c.extend.ensures.known)) c.self.invariant

@@ -11,4 +11,4 @@ returns c =
     ap (λ scopes. with_paths (with_scopes (known_by c.self.inside.nodes.items) scopes) (paths_in c.self.inside.nodes.items))
     (ap scopes_of c.truncate.ensures.items
     ∙ sym (take-map (λ (o : Opened). o.scope) c.args.count c.self.inside.scopes.items))
-    ∙ ap (λ k. with_scopes k (take c.args.count k.scopes)) (c.self.view_is ∙ c.forget_innermost.ensures)
+    ∙ ap (λ k. with_scopes k (take c.args.count k.scopes)) c.self.view_is

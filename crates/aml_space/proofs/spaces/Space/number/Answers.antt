@@ -12,9 +12,9 @@ grown c = subst (λ k. Grows k (known_in c.extend.new.nodes.items c.self.inside.
     (known_again c.self.inside.nodes.items c.extend.new.nodes.items c.self.inside.scopes.items _ c.self.invariant.index c.extend.ensures.index
     c.extend.ensures.kept c.extend.ensures.known)
 
-still : (c : After-extend) → IsSpace c.extend.new.nodes.items c.self.inside.rows c.self.inside.opened.items c.self.inside.scopes.items
+still : (c : After-extend) → IsSpace c.extend.new.nodes.items c.self.inside.rows c.self.inside.scopes.items
     c.self.inside.ways
-still c = still_space c.self.inside.nodes.items c.extend.new.nodes.items c.self.inside.rows _ c.self.inside.opened.items
+still c = still_space c.self.inside.nodes.items c.extend.new.nodes.items c.self.inside.rows _
     c.self.inside.scopes.items c.self.inside.ways c.extend.ensures.index c.extend.ensures.kept
     (c.self.invariant.rows ∙ ap (λ (k : Known). length (map.entries k.declarations)) (sym c.extend.ensures.known)) c.self.invariant
 

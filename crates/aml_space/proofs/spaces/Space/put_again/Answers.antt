@@ -14,7 +14,7 @@ use Rattle.aml_space.proofs.spaces.Space.put_again.Goals.{In_ok-declare_first, A
 
 not_declared : (c : After-is_taken) → c.is_taken.result ≡ false
     → map.get c.args.self.now.declarations c.args.path.now ≡ None
-not_declared c free = none_from_test _ (sym (known_taken _ _ _ _ _ c.args.self.now c.is_taken.ensures.taken c.as_slice-5.ensures.value refl c.self.invariant.index.shape
+not_declared c free = none_from_test _ (sym (known_taken _ _ _ _ _ c.args.self.now c.is_taken.ensures.taken c.as_slice-4.ensures.value refl c.self.invariant.index.shape
     (ap (λ k. k.declarations) c.self.view_is)) ∙ free)
 
 put_here : (c : In_ok-declare_first) → map.get c.args.self.now.declarations c.args.path.now ≡ None
@@ -38,12 +38,12 @@ put_there c again = subst (λ k. Grows (with_again k c.args.path.now c.args.kind
     c.self.invariant.index c.declare_again.ensures.index c.declare_again.ensures.kept again)
 
 pub invariant_of-self-in_err-declare_first : goal.invariant_of-self-in_err-declare_first
-invariant_of-self-in_err-declare_first c = still_space c.self.inside.nodes.items c.declare_first.new.nodes.items c.self.inside.rows _ c.self.inside.opened.items
+invariant_of-self-in_err-declare_first c = still_space c.self.inside.nodes.items c.declare_first.new.nodes.items c.self.inside.rows _
     c.self.inside.scopes.items c.self.inside.ways c.declare_first.ensures.index c.declare_first.ensures.kept
     (c.self.invariant.rows ∙ ap (λ (k : Known). length (map.entries k.declarations)) (sym c.in_err-declare_first.ensures.err)) c.self.invariant
 
 pub invariant_of-self : goal.invariant_of-self
-invariant_of-self c = still_space c.self.inside.nodes.items c.declare_again.new.nodes.items c.self.inside.rows _ c.self.inside.opened.items
+invariant_of-self c = still_space c.self.inside.nodes.items c.declare_again.new.nodes.items c.self.inside.rows _
     c.self.inside.scopes.items c.self.inside.ways c.declare_again.ensures.index c.declare_again.ensures.kept
     (c.self.invariant.rows ∙ sym c.declare_again.ensures.rows) c.self.invariant
 
@@ -57,7 +57,7 @@ invariant_of-self-2 c =
     (put_here (goal.at.invariant_of-self-2 c).In_ok-declare_first none).1
     ∙ ap (λ (k : Known). length (map.entries k.declarations)) (again_first c.args.self.now c.args.path.now c.args.kind c.args.sure none)
     ∙ one_declared c.args.self.now c.args.path.now (once c.args.kind c.args.sure) none in
-    still_space c.self.inside.nodes.items c.declare_first.new.nodes.items c.self.inside.rows _ c.self.inside.opened.items
+    still_space c.self.inside.nodes.items c.declare_first.new.nodes.items c.self.inside.rows _
     c.self.inside.scopes.items c.self.inside.ways c.declare_first.ensures.index c.declare_first.ensures.kept
     (omega (arith, before, after)) c.self.invariant
 
@@ -76,8 +76,8 @@ returns-then-is_taken-clause-stands c = λ es body stands. ok_then c.declare_aga
 
 pub aimed_by-aimed-requires-clause-source : goal.aimed_by-aimed-requires-clause-source
 aimed_by-aimed-requires-clause-source c =
-    let scopes = ap scopes_of (c.new-hints.ensures.scopes ∙ c.as_slice-2.ensures.value) ∙ ap (λ (k : Known). k.scopes) c.self.view_is in
-    let names = ap (λ ns. namespace_in (known_by ns)) c.as_slice-6.ensures.value ∙ ap namespace_in c.self.view_is in
+    let scopes = ap scopes_of (c.new-hints.ensures.scopes ∙ c.as_slice.ensures.value) ∙ ap (λ (k : Known). k.scopes) c.self.view_is in
+    let names = ap (λ ns. namespace_in (known_by ns)) c.as_slice-5.ensures.value ∙ ap namespace_in c.self.view_is in
     subst (λ n. IfSome c.args.source (IsSourceOf (scopes_of c.new-hints.result.scopes.now) n c.args.kind)) (sym names)
     (subst (λ inside. IfSome c.args.source (IsSourceOf inside (namespace_in c.args.self.now) c.args.kind)) (sym scopes) c.requires.source)
 

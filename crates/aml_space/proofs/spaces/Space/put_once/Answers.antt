@@ -15,7 +15,7 @@ use Rattle.aml_space.proofs.spaces.Space.put_once.Goals as goal
 use Rattle.aml_space.proofs.spaces.Space.put_once.Goals.{After-is_taken, After-declare_first, In_ok-declare_first}
 
 taken : (c : After-is_taken) → c.is_taken.result ≡ is_declared c.args.self.now c.args.path.now
-taken c = known_taken _ _ _ _ _ c.args.self.now c.is_taken.ensures.taken c.as_slice-5.ensures.value refl c.self.invariant.index.shape
+taken c = known_taken _ _ _ _ _ c.args.self.now c.is_taken.ensures.taken c.as_slice-4.ensures.value refl c.self.invariant.index.shape
     (ap (λ k. k.declarations) c.self.view_is)
 
 not_declared : (c : After-is_taken) → c.is_taken.result ≡ false
@@ -36,7 +36,7 @@ put_here c =
     ∙ ap (λ kind. with_declaration (known_by c.self.inside.nodes.items) c.args.path.now (once kind c.args.surely)) c.aimed_by-aimed.ensures.kind))
 
 pub invariant_of-self : goal.invariant_of-self
-invariant_of-self c = still_space c.self.inside.nodes.items c.declare_first.new.nodes.items c.self.inside.rows _ c.self.inside.opened.items
+invariant_of-self c = still_space c.self.inside.nodes.items c.declare_first.new.nodes.items c.self.inside.rows _
     c.self.inside.scopes.items c.self.inside.ways c.declare_first.ensures.index c.declare_first.ensures.kept
     (c.self.invariant.rows ∙ ap (λ (k : Known). length (map.entries k.declarations)) (sym c.in_err-declare_first.ensures.err)) c.self.invariant
 
@@ -48,7 +48,7 @@ invariant_of-self-2 c =
     ap (λ (k : Known). length (map.entries k.declarations)) (put_here (goal.at.invariant_of-self-2 c).In_ok-declare_first).1
     ∙ one_declared c.args.self.now c.args.path.now (once c.args.kind c.args.surely)
     (not_declared (goal.at.invariant_of-self-2 c).After-is_taken c.if-is_taken.false) in
-    still_space c.self.inside.nodes.items c.declare_first.new.nodes.items c.self.inside.rows _ c.self.inside.opened.items
+    still_space c.self.inside.nodes.items c.declare_first.new.nodes.items c.self.inside.rows _
     c.self.inside.scopes.items c.self.inside.ways c.declare_first.ensures.index c.declare_first.ensures.kept
     (omega (arith, before, after)) c.self.invariant
 
@@ -88,8 +88,8 @@ returns-clause-listed c = λ es s. ap not (sym c.if-is_taken.false ∙ sym (list
 
 pub aimed_by-aimed-requires-clause-source : goal.aimed_by-aimed-requires-clause-source
 aimed_by-aimed-requires-clause-source c =
-    let scopes = ap scopes_of (c.new-hints.ensures.scopes ∙ c.as_slice-2.ensures.value) ∙ ap (λ (k : Known). k.scopes) c.self.view_is in
-    let names = ap (λ ns. namespace_in (known_by ns)) c.as_slice-6.ensures.value ∙ ap namespace_in c.self.view_is in
+    let scopes = ap scopes_of (c.new-hints.ensures.scopes ∙ c.as_slice.ensures.value) ∙ ap (λ (k : Known). k.scopes) c.self.view_is in
+    let names = ap (λ ns. namespace_in (known_by ns)) c.as_slice-5.ensures.value ∙ ap namespace_in c.self.view_is in
     subst (λ n. IfSome c.args.source (IsSourceOf (scopes_of c.new-hints.result.scopes.now) n c.args.kind)) (sym names)
     (subst (λ inside. IfSome c.args.source (IsSourceOf inside (namespace_in c.args.self.now) c.args.kind)) (sym scopes) c.requires.source)
 
