@@ -23,7 +23,7 @@ use Rattle.aml_namespace.specs.declared.kinds.Kind.TheVariants as kinds
 use Rattle.aml_space.specs.declared.faults.SpaceFault.TheVariants as faults
 use Rattle.aml_namespace.specs.Namespace.{Entry, Body, declares, declared_at}
 use Rattle.aml_namespace.specs.Known.{Grows, StandsAt, StandsFor, with_scopes}
-use Rattle.aml_namespace.proofs.Numbers.{scopes_grown, still_at}
+use Rattle.aml_namespace.proofs.Numbers.{still_at}
 use Rattle.aml_namespace.proofs.Stands.{stands_grown, stands_inside}
 use Rattle.aml_load.specs.declared.faults.LoadFault.{LoadFault}
 use Rattle.aml_load.specs.declared.faults.LoadFault.TheVariants as loads
@@ -37,10 +37,9 @@ use Rattle.aml_load.specs.Declaring.{◌>>=◌, Listed, plus, with_uses, term_us
 use Rattle.aml_load.specs.Declaring.{declare_as, declare, declare_inside}
 use Rattle.aml_load.specs.Loading.{Where, method_of, methods_of, role_of, plain_entry}
 use Rattle.aml_load.specs.Tables.{Fails}
-use Rattle.aml_load.specs.declared.groups.Groups.{Groups}
-use Rattle.aml_load.specs.Groups.{AreIn, uses_of}
-use Rattle.aml_load.proofs.Grouping.{open_inside}
-use Rattle.aml_load.specs.Walking.{Holds, IsFree, IsDeclared, KeepsPaths, KeepsUses, Walked}
+use Rattle.aml_load.specs.Groups.{AreKnown, uses_of}
+use Rattle.aml_load.proofs.Grouping.{same_uses, still_known}
+use Rattle.aml_load.specs.Walking.{Holds, IsFree, IsDeclared, KeepsPaths, Walked}
 
 pub methods_more : (es : List Entry) (x : Entry) → methods_of (es ++ x ∷ []) ≡ methods_of es ++ methods_of (x ∷ [])
 methods_more [] x = refl
@@ -55,12 +54,6 @@ methods_more (e ∷ es) x = by (method_of e) (methods_more es x)
 pub as_many_held : (p : Progress) (l : Listed) → Holds p l → length (methods_of l.entries) ≡ length p.methods.items
 as_many_held p l h = sym (ap length h.methods) ∙ as_many p.space p.methods.items
 
--- the uses are grouped as they were
-grouped_as : (old new : Progress) → KeepsUses old new → AreIn old.space.scopes old.uses
-    → AreIn new.space.scopes new.uses
-grouped_as old new keeps grouped = subst (λ scopes. AreIn scopes new.uses) (sym keeps.scopes)
-    (subst (AreIn old.space.scopes) (sym keeps.uses) grouped)
-
 -- the methods have their paths, and these their numbers, as they had
 module _ (old new : Progress) (all : AreNumbered old.space old.methods.items) (keeps : KeepsPaths old.space new.space)
     (ms : new.methods.items ≡ old.methods.items) where
@@ -70,25 +63,35 @@ module _ (old new : Progress) (all : AreNumbered old.space old.methods.items) (k
   methods_as : methods_in new.space new.methods.items ≡ methods_in old.space old.methods.items
   methods_as = ap (methods_in new.space) ms ∙ same_methods old.space new.space keeps old.methods.items all
 
+-- and so have the uses
+module _ (old new : Progress) (all : AreKnown old.space old.uses.items) (keeps : KeepsPaths old.space new.space)
+    (us : new.uses.items ≡ old.uses.items) where
+  known_as : AreKnown new.space new.uses.items
+  known_as = subst (AreKnown new.space) (sym us) (still_known old.space new.space keeps old.uses.items all)
+
+  uses_as : uses_of new.space new.uses.items ≡ uses_of old.space old.uses.items
+  uses_as = ap (uses_of new.space) us ∙ same_uses old.space new.space keeps old.uses.items all
+
 -- an entry without a body
 pub plain_held : (old new : Progress) (l : Listed) (x : Entry) → methods_of (x ∷ []) ≡ [] → Holds old l
     → StandsFor new.space (l.entries ++ x ∷ [])
-    → new.methods.items ≡ old.methods.items → KeepsUses old new → KeepsPaths old.space new.space → Holds new (plus l x)
-plain_held old new l x none h s ms keeps paths = record {
+    → new.methods.items ≡ old.methods.items → new.uses.items ≡ old.uses.items → KeepsPaths old.space new.space
+    → Holds new (plus l x)
+plain_held old new l x none h s ms us paths = record {
   numbered = numbered_as old new h.numbered paths ms;
   space = s;
   methods = methods_as old new h.numbered paths ms ∙ h.methods
       ∙ sym (methods_more l.entries x ∙ ap (λ zs. methods_of l.entries ++ zs) none ∙ append-nil (methods_of l.entries));
-  uses = ap (λ (us : Groups). uses_of us.list.items) keeps.uses ∙ h.uses;
-  grouped = grouped_as old new keeps h.grouped;
+  uses = uses_as old new h.known paths us ∙ h.uses;
+  known = known_as old new h.known paths us;
 }
 
 pub method_held : (old new : Progress) (l : Listed) (p : List Seg) (k : Kind) (b : Body) (sure : Bool) (m : Kept)
     → Holds old l → StandsFor new.space (l.entries ++ declares p k (Some b) sure ∷ [])
     → new.methods.items ≡ old.methods.items ++ m ∷ [] → StandsAt new.space m.path p
     → method_in new.space m ≡ record { path = path_at new.space m.path; table = b.table; start = b.start; len = b.len; flags = b.flags }
-    → KeepsUses old new → KeepsPaths old.space new.space → Holds new (plus l (declares p k (Some b) sure))
-method_held old new l p k b sure m h s ms at is keeps paths = record {
+    → new.uses.items ≡ old.uses.items → KeepsPaths old.space new.space → Holds new (plus l (declares p k (Some b) sure))
+method_held old new l p k b sure m h s ms at is us paths = record {
   numbered = subst (AreNumbered new.space) (sym ms) (one_numbered new.space old.methods.items m (slice_get_within new.space.paths m.path p at)
       (still_numbered old.space new.space paths old.methods.items h.numbered));
   space = s;
@@ -101,33 +104,33 @@ method_held old new l p k b sure m h s ms at is keeps paths = record {
         len = b.len;
         flags = b.flags;
       }) ∙ sym (methods_more l.entries (declares p k (Some b) sure));
-  uses = ap (λ (us : Groups). uses_of us.list.items) keeps.uses ∙ h.uses;
-  grouped = grouped_as old new keeps h.grouped;
+  uses = uses_as old new h.known paths us ∙ h.uses;
+  known = known_as old new h.known paths us;
 }
 
 -- a scope more is open
 pub inside_held : (old new : Progress) (l : Listed) (scope : List Seg)
     → Grows (with_scopes old.space (old.space.scopes ++ scope ∷ [])) new.space → new.methods.items ≡ old.methods.items
-    → new.uses ≡ old.uses → Holds old l → Holds new l
+    → new.uses.items ≡ old.uses.items → Holds old l → Holds new l
 inside_held old new l scope grows ms us h = record {
   numbered = numbered_as old new h.numbered (λ id p. still_at _ _ id p grows) ms;
   space = stands_grown _ _ l.entries grows (stands_inside old.space (old.space.scopes ++ scope ∷ []) l.entries h.space);
   methods = methods_as old new h.numbered (λ id p. still_at _ _ id p grows) ms ∙ h.methods;
-  uses = ap (λ (us : Groups). uses_of us.list.items) us ∙ h.uses;
-  grouped = open_inside old.space.scopes new.space.scopes scope new.uses (scopes_grown _ _ grows)
-      (subst (AreIn old.space.scopes) (sym us) h.grouped);
+  uses = uses_as old new h.known (λ id p. still_at _ _ id p grows) us ∙ h.uses;
+  known = known_as old new h.known (λ id p. still_at _ _ id p grows) us;
 }
 
 -- the names of a term more
 pub uses_held : (old new : Progress) (l : Listed) (site : Where) (x : Tree) → Holds old l → new.space ≡ old.space
-    → new.methods.items ≡ old.methods.items → uses_of new.uses.list.items ≡ uses_of old.uses.list.items ++ term_uses site x
-    → AreIn new.space.scopes new.uses → Holds new (with_uses site l x)
-uses_held old new l site x h s ms us grouped = record {
+    → new.methods.items ≡ old.methods.items
+    → uses_of old.space new.uses.items ≡ uses_of old.space old.uses.items ++ term_uses site x
+    → AreKnown old.space new.uses.items → Holds new (with_uses site l x)
+uses_held old new l site x h s ms us known = record {
   numbered = numbered_as old new h.numbered (λ id p. subst (λ k. StandsAt k id p) (sym s)) ms;
   space = subst (λ k. StandsFor k l.entries) (sym s) h.space;
   methods = methods_as old new h.numbered (λ id p. subst (λ k. StandsAt k id p) (sym s)) ms ∙ h.methods;
-  uses = us ∙ ap (λ us. us ++ term_uses site x) h.uses;
-  grouped = grouped;
+  uses = ap (λ k. uses_of k new.uses.items) s ∙ us ∙ ap (λ us. us ++ term_uses site x) h.uses;
+  known = subst (λ k. AreKnown k new.uses.items) (sym s) known;
 }
 
 -- what an opcode declares

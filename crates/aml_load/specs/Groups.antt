@@ -1,12 +1,12 @@
 -- A stepping stone: the names outside the methods in groups of one scope.
-use Rattle.std.specs.Prelude.{◌≡◌, ℕ, ◌<◌, List, [], ◌∷◌, length, map as map_list, flat_map, slice_get}
-use Rattle.std.specs.Prelude.{Option, Some, None, IfSome}
+use Rattle.std.specs.Prelude.{ℕ, ◌<◌, List, length, map as map_list, flat_map}
+use Rattle.std.specs.List.{AllByRecursion}
 use Rattle.aml_names.specs.declared.names.Name.{Name}
 use Rattle.aml_names.specs.declared.segments.Seg.{Seg}
 use Rattle.aml_load.specs.declared.used.Asked.{Asked}
 use Rattle.aml_load.specs.declared.uses.Asker.{Asker}
 use Rattle.aml_load.specs.declared.groups.Group.{Group}
-use Rattle.aml_load.specs.declared.groups.Groups.{Groups}
+use Rattle.aml_namespace.specs.Known.{Known, path_at}
 use Rattle.aml_load.specs.Declaring.{Use, use_of, strict}
 
 -- a name that stands in a scope
@@ -23,19 +23,13 @@ asked_as a n args = record { table = a.table; name = n; args = args; declaring =
 abbrev pub asked_by : List Seg → Asker → Name → ℕ → Use
 asked_by scope a = use_of (strict a.table scope) a.declaring
 
--- the names of groups
-abbrev pub group_uses : Group → List Use
-group_uses g = named_in g.scope g.names.items
+-- the names of groups, by the paths of a space
+abbrev pub group_uses : Known → Group → List Use
+group_uses k g = named_in (path_at k g.scope) g.names.items
 
-abbrev pub uses_of : List Group → List Use
-uses_of gs = flat_map group_uses gs
+abbrev pub uses_of : Known → List Group → List Use
+uses_of k gs = flat_map (group_uses k) gs
 
--- the scope of the last group, behind one of this scope
-abbrev pub last_scope : Option (List Seg) → List Group → Option (List Seg)
-last_scope front [] = front
-last_scope front (g ∷ gs) = last_scope (Some g.scope) gs
-
--- that scope is open at the place that is kept of it
-abbrev pub AreIn : List (List Seg) → Groups → Type 0
-AreIn scopes groups =
-    IfSome groups.last (λ place. (place < length scopes) × (last_scope None groups.list.items ≡ slice_get scopes place))
+-- the scopes of groups have numbers
+abbrev pub AreKnown : Known → List Group → Type 0
+AreKnown k gs = AllByRecursion (λ g. g.scope < length k.paths) gs

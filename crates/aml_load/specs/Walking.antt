@@ -14,7 +14,7 @@ use Rattle.aml_load.specs.declared.uses.Site.{Site}
 use Rattle.aml_load.specs.declared.walking.Progress.{Progress}
 use Rattle.aml_load.specs.Declaring.{Listed}
 use Rattle.aml_load.specs.Loading.{methods_of, Where, parent_of, sure_with}
-use Rattle.aml_load.specs.Groups.{AreIn, uses_of}
+use Rattle.aml_load.specs.Groups.{AreKnown, uses_of}
 use Rattle.aml_load.specs.Tables.{Fails}
 use Rattle.aml_code.specs.Tree.{Trees}
 use Rattle.aml_set.specs.declared.tables.Table.{Table}
@@ -31,12 +31,7 @@ IsFree site es p (Ok u) = (not site.any_run && is_some (declared_at es p)) ≡ f
 IsFree site es p (Err e) = (e ≡ loads.NoMemory)
     ⊎ (((not site.any_run && is_some (declared_at es p)) ≡ true) × (e ≡ loads.Space site.table (faults.Duplicate p)))
 
--- the names outside the methods and the open scopes are as before
-pub record KeepsUses (old new : Progress) : Type 0 where
-  pub uses : new.uses ≡ old.uses
-  pub scopes : new.space.scopes ≡ old.space.scopes
-
--- and each number stands for its path still
+-- each number stands for its path still
 abbrev pub KeepsPaths : Known → Known → Type 0
 KeepsPaths old new = (id : ℕ) (p : List Seg) → StandsAt old id p → StandsAt new id p
 
@@ -44,7 +39,7 @@ KeepsPaths old new = (id : ℕ) (p : List Seg) → StandsAt old id p → StandsA
 -- that it may not be added, or want of memory.
 abbrev pub IsDeclared : Where → List Entry → List Seg → Entry → Progress → Progress → Result (Unit {0}) LoadFault → Type 0
 IsDeclared site es p x old new (Ok u) = IsFree site es p (Ok u) × StandsFor new.space (es ++ x ∷ [])
-    × (new.methods.items ≡ old.methods.items) × KeepsUses old new × KeepsPaths old.space new.space
+    × (new.methods.items ≡ old.methods.items) × (new.uses.items ≡ old.uses.items) × KeepsPaths old.space new.space
 IsDeclared site es p x old new (Err e) = IsFree site es p (Err e)
 
 -- the path of which an Alias is declared
@@ -56,14 +51,14 @@ source_paths (Some s) = s.path.now ∷ []
 abbrev pub sure_of : Where → List Entry → List Seg → Option Source → Bool
 sure_of site es p source = sure_with site es (parent_of p ∷ source_paths source)
 
--- the namespace, the methods and the uses so far are those of what is listed, the methods' paths have numbers, and the
--- uses are grouped
+-- the namespace, the methods and the uses so far are those of what is listed, and the paths of methods and the scopes of
+-- uses have numbers
 pub record Holds (p : Progress) (l : Listed) : Type 0 where
   pub space : StandsFor p.space l.entries
   pub methods : methods_in p.space p.methods.items ≡ methods_of l.entries
   pub numbered : AreNumbered p.space p.methods.items
-  pub uses : uses_of p.uses.list.items ≡ l.uses
-  pub grouped : AreIn p.space.scopes p.uses
+  pub uses : uses_of p.space p.uses.items ≡ l.uses
+  pub known : AreKnown p.space p.uses.items
 
 -- what a function answered, seen by a view, is what the walk gives, unless memory was refused
 abbrev pub Gives : {X Y : Type 0} → (X → Y) → Result X LoadFault → Result Y LoadFault → Type 0

@@ -17,15 +17,15 @@ ghost use Rattle.aml_set.specs.Code.{AreCodes, AreShort};
 ghost use Rattle.aml_set.specs.Views.{codes_view, table_codes, table_dumps};
 
 use crate::faults::LoadFault;
-use crate::groups::{Group, Groups};
+use crate::groups::Group;
 use crate::used::Asked;
 use crate::uses::Site;
 use crate::walking::Progress;
 use aml_code::{Locals, NoMemory, Node, Path};
-use aml_names::{ArgumentCount, Arity, ScopedPath};
+use aml_names::{ArgumentCount, Arity, place};
 use aml_parse::parse_module;
 use aml_set::{Loaded, Table, TableSet};
-use aml_space::{BodyNames, Space};
+use aml_space::{BodyNames, Space, SpacePath};
 use std::alloc::Global;
 
 /// Reads a table whole, and then declares what it declares.
@@ -129,7 +129,7 @@ fn is_count(args: usize, count: Option<u8>) -> bool
 fn call_fault(
     alloc: Global,
     any_run: bool,
-    scope: &ScopedPath,
+    scope: &SpacePath<'_>,
     asked: &Asked,
 ) -> Result<LoadFault, NoMemory>
     ensures { IfOk result (λ fault. fault ≡ call_fault any_run (use_in scope.now asked.now)) }
@@ -137,9 +137,9 @@ fn call_fault(
     if !any_run {
         return Ok(LoadFault::ModuleCall(asked.table));
     }
-    match ScopedPath::placed(alloc, scope, &asked.name)? {
+    match place(alloc, &scope.to_path(alloc)?, &asked.name)? {
         None => Ok(LoadFault::ModuleCall(asked.table)),
-        Some(path) => Ok(LoadFault::RunCall(asked.table, path.to_path(alloc)?)),
+        Some(path) => Ok(LoadFault::RunCall(asked.table, path)),
     }
 }
 
@@ -153,14 +153,14 @@ fn check_group(
     group: &Group,
 ) -> Result<(), LoadFault>
     ensures { (l : Listed) → StandsFor space.now l.entries →
-        Gives (λ x. x) result (uses_at any_run unknown_zero l.entries (group_uses group.now)) }
+        Gives (λ x. x) result (uses_at any_run unknown_zero l.entries (group_uses space.now group.now)) }
 {
-    let mut names = BodyNames::new(space, group.scope.parts(), unknown_zero);
+    let mut names = BodyNames::numbered(space, group.scope, unknown_zero);
     for asked in &group.names {
         names = names_for(names, unknown_zero, asked);
         let count = count_of(alloc, &names, asked)?;
         if !is_count(asked.args, count) {
-            return Err(call_fault(alloc, any_run, &group.scope, asked)?);
+            return Err(call_fault(alloc, any_run, &space.path(group.scope), asked)?);
         }
     }
     Ok(())
@@ -177,7 +177,7 @@ fn check_uses(
     groups: &[Group],
 ) -> Result<(), LoadFault>
     ensures { (l : Listed) → StandsFor space.now l.entries →
-        Gives (λ x. x) result (uses_at any_run unknown_zero l.entries (uses_of groups.now)) }
+        Gives (λ x. x) result (uses_at any_run unknown_zero l.entries (uses_of space.now groups.now)) }
 {
     for group in groups {
         check_group(alloc, space, any_run, unknown_zero, group)?;
@@ -204,7 +204,7 @@ pub fn first_progress(alloc: Global, givens: &[(Path, ArgumentCount)]) -> Result
         alloc,
         space: space_with(alloc, givens)?,
         methods: Vec::new(alloc),
-        uses: Groups::new(alloc),
+        uses: Vec::new(alloc),
     })
 }
 
@@ -227,7 +227,7 @@ fn load_each<'a>(
         &progress.space,
         any_run,
         unknown_zero,
-        progress.uses.list.as_slice(),
+        progress.uses.as_slice(),
     )?;
     Ok(TableSet {
         tables,

@@ -18,7 +18,7 @@ ghost use Rattle.aml_load.specs.Walking.{at_site, Gives, GivesIn, IsDeclared, Wa
 ghost use Rattle.aml_load.specs.Walking.{source_paths, sure_of};
 
 use crate::faults::LoadFault;
-use crate::groups::Groups;
+use crate::groups::{Group, add_group};
 use crate::keeping::most_kept;
 use crate::roles::{kind_of, role_of};
 use crate::uses::{Site, add_names};
@@ -37,7 +37,8 @@ pub struct Progress {
     pub alloc: Global,
     pub space: Space,
     pub methods: Vec<Method>,
-    pub uses: Groups,
+    /// The names outside the methods, in groups of one scope.
+    pub uses: Vec<Group>,
 }
 
 /// The last byte of the parts: a method's flags, an External's number of arguments.
@@ -515,7 +516,6 @@ impl Progress {
         ensures fewer { self.new.space.scopes ≡ take count self.old.space.scopes }
     {
         self.space.leave(count);
-        self.uses.close(count);
     }
 }
 
@@ -529,7 +529,8 @@ impl Progress {
     {
         let mut names = Vec::new(self.alloc);
         add_names(site.table, term, &mut names)?;
-        self.uses.add(site.place, site.scope, names)
+        let scope = self.space.open_scope(site.place);
+        add_group(&mut self.uses, scope, names)
     }
 }
 

@@ -13,7 +13,7 @@ abbrev pub Keeps : Known → Known → Type 0
 Keeps old new = (id : ℕ) (p : List Seg) → StandsAt old id p → StandsAt new id p
 
 module _ (old new : Known) (keeps : Keeps old new) where
-  still_at : (id : ℕ) → id < length old.paths → StandsAt new id (path_at old id)
+  pub still_at : (id : ℕ) → id < length old.paths → StandsAt new id (path_at old id)
   still_at id within = keeps id (path_at old id)
       (slice_get_read old.paths (length old.paths) id (path_at old id) refl within (get_or_default old.paths id [] (path_at old id) within))
 

@@ -45,20 +45,22 @@ pub loop-group-preserved : goal.loop-group-preserved
 loop-group-preserved c l h =
     let any = c.args.any_run in
     let z = c.args.unknown_zero in
+    let k = c.args.space.now in
     let gs = c.args.groups.now in
     let n = c.loop-group.group-index in
     let g = c.group-item.result in
     let rest = drop (n + 1) gs in
     let cut : drop n gs ≡ g ∷ rest = drop_more gs n g c.loop-group-test.true
     ∙ ap (λ x. x ∷ rest) (sym c.group-item.is) in
-    sym (passed any z l.entries (uses_of rest) (group_uses g) c.in_ok-check_group.field-0
+    sym (passed any z l.entries (uses_of k rest) (group_uses k g) c.in_ok-check_group.field-0
     (c.in_ok-check_group.ensures l h))
-    ∙ ap (λ xs. uses_at any z l.entries (uses_of xs)) (sym cut) ∙ c.loop-group.invariant l h
+    ∙ ap (λ xs. uses_at any z l.entries (uses_of k xs)) (sym cut) ∙ c.loop-group.invariant l h
 
 pub returns-in_err-check_group : goal.returns-in_err-check_group
 returns-in_err-check_group c l h =
     let any = c.args.any_run in
     let z = c.args.unknown_zero in
+    let k = c.args.space.now in
     let gs = c.args.groups.now in
     let n = c.loop-group.group-index in
     let g = c.group-item.result in
@@ -67,6 +69,6 @@ returns-in_err-check_group c l h =
     let cut : drop n gs ≡ g ∷ rest = drop_more gs n g c.loop-group-test.true
     ∙ ap (λ x. x ∷ rest) (sym c.group-item.is) in
     let gave = err_from_is_err_and c.from_residual.result c.from_residual.ensures.1 in
-    let all = ap (λ xs. uses_at any z l.entries (uses_of xs)) (sym cut) ∙ c.loop-group.invariant l h in
+    let all = ap (λ xs. uses_at any z l.entries (uses_of k xs)) (sym cut) ∙ c.loop-group.invariant l h in
     rw (gave.1, gave.2)
-    (subst (Fails e) all (fails any z l.entries (uses_of rest) (group_uses g) e (c.in_err-check_group.ensures l h)))
+    (subst (Fails e) all (fails any z l.entries (uses_of k rest) (group_uses k g) e (c.in_err-check_group.ensures l h)))

@@ -6,5 +6,5 @@ use Rattle.aml_load.proofs.loading.check_uses.Given as goal
 
 abbrev pub invariant-loop-group : goal.invariant-loop-group
 invariant-loop-group x = (l : Listed) → StandsFor x.space l.entries
-    → uses_at x.any_run x.unknown_zero l.entries (uses_of (drop x.group-index x.groups))
-    ≡ uses_at x.any_run x.unknown_zero l.entries (uses_of x.groups)
+    → uses_at x.any_run x.unknown_zero l.entries (uses_of x.space (drop x.group-index x.groups))
+    ≡ uses_at x.any_run x.unknown_zero l.entries (uses_of x.space x.groups)

@@ -7,6 +7,6 @@ returns c = record {
   space = c.in_ok-space_with.ensures.stands;
   numbered = rw c.new.ensures.items tt;
   methods = rw c.new.ensures.items (sym (no_methods c.args.givens.now));
-  uses = rw c.new-2.ensures.list refl;
-  grouped = rw c.new-2.ensures.last tt;
+  uses = rw c.new-2.ensures.items refl;
+  known = rw c.new-2.ensures.items tt;
 }

@@ -28,8 +28,8 @@ returns-clause-gives c =
         methods = ap (λ k. methods_in k c.read_tables.new.progress.methods.items) c.settle.ensures ∙ read.2.1.methods;
       },
       load_gives c.args.any_run c.args.unknown_zero gs codes (table_terms c.read_tables.new.tables.items) m
-          (uses_of c.as_slice.result.now) c.in_ok-check_uses.field-0 read.2.2
-          (ap uses_of c.as_slice.ensures.value ∙ read.2.1.uses) free,
+          (uses_of c.settle.new.self c.as_slice.result.now) c.in_ok-check_uses.field-0 read.2.2
+          ((λ i. uses_of (c.settle.ensures i) (c.as_slice.ensures.value i)) ∙ read.2.1.uses) free,
     )
 
 pub returns-in_err-check_uses-clause-gives : goal.returns-in_err-check_uses-clause-gives
@@ -40,6 +40,6 @@ returns-in_err-check_uses-clause-gives c =
     let gave = err_from_is_err_and c.from_residual-in_err-check_uses.result c.from_residual-in_err-check_uses.ensures.1 in
     rw (gave.1, gave.2)
     (load_refused c.args.any_run c.args.unknown_zero gs (table_codes c.args.tables.items) (table_terms c.read_tables.new.tables.items) m
-    (uses_of c.as_slice.result.now) c.in_err-check_uses.field-0.0 read.2.2
-    (ap uses_of c.as_slice.ensures.value ∙ read.2.1.uses)
+    (uses_of c.settle.new.self c.as_slice.result.now) c.in_err-check_uses.field-0.0 read.2.2
+    ((λ i. uses_of (c.settle.ensures i) (c.as_slice.ensures.value i)) ∙ read.2.1.uses)
     (c.in_err-check_uses.ensures m (subst (λ k. StandsFor k m.entries) (sym c.settle.ensures) read.2.1.space)))

@@ -1,7 +1,7 @@
 use Rattle.std.proofs.Common.{◌++◌, ◌∷◌, [], refl, subst}
 use Rattle.aml_namespace.specs.Namespace.{external}
 use Rattle.aml_namespace.specs.Known.{StandsFor}
-use Rattle.aml_namespace.proofs.Numbers.{scopes_grown, still_at}
+use Rattle.aml_namespace.proofs.Numbers.{still_at}
 use Rattle.aml_load.specs.Declaring.{plus}
 use Rattle.aml_load.proofs.Holding.{plain_held}
 use Rattle.aml_load.proofs.walking.Progress.add_count.Goals as goal
@@ -15,7 +15,7 @@ returns-clause-walks c l h = (
   plain_held c.args.self.now _ l (external c.args.path.now.path c.args.count) refl h
       (subst (λ p. StandsFor c.put_external.new.self (l.entries ++ external p c.args.count ∷ [])) c.parts.ensures
       (c.in_ok-put_external.ensures.stands l.entries h.space)) refl
-      (record { uses = refl; scopes = scopes_grown _ _ c.in_ok-put_external.ensures.ok })
+      refl
       (λ id p. still_at _ _ id p c.in_ok-put_external.ensures.ok),
   refl,
 )

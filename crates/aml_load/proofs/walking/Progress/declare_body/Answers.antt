@@ -1,6 +1,6 @@
 use Rattle.std.proofs.Common.{Some, sym, subst, ap, ◌∙◌, ◌++◌, ◌∷◌, [], ◌%◌, refl, rules}
 use Rattle.aml_namespace.specs.Namespace.{Body}
-use Rattle.aml_namespace.proofs.Numbers.{scopes_grown, still_at}
+use Rattle.aml_namespace.proofs.Numbers.{still_at}
 use Rattle.aml_namespace.proofs.Stands.{stands_grown}
 use Rattle.aml_namespace.specs.declared.kinds.Kind.TheVariants as kinds
 use Rattle.aml_space.specs.Near.{IsNear}
@@ -44,7 +44,7 @@ returns-clause-walks c l h =
       plus l e,
       method_held c.args.self.now _ l p k b (sure_here site l.entries p) m h (stands_grown _ _ more grows d.1)
           (c.in_ok-push.ensures.items ∙ ap (λ xs. xs ++ m ∷ []) d.2) (c.in_ok-number.ensures.ok ∙ ap Some c.parts.ensures) refl
-          (record { uses = d.3.uses; scopes = scopes_grown _ _ grows ∙ d.3.scopes })
+          d.3
           (λ id q at. still_at _ _ id q grows (d.4 id q at)),
       entry_free site l p e d.0,
     )
