@@ -5,7 +5,7 @@ use Rattle.acpidis.proofs.Common.{AllZip, ◌≡◌, ℕ, suc, Bool, false, List
 use Rattle.acpidis.proofs.Common.{Err, refl, sym, ap, ap₂, subst, arith}
 use Rattle.acpidis.proofs.Common.{slice_get, Entry, CodeFault, Trees, IfSome, table_codes, span_of, body_in}
 use Rattle.acpidis.proofs.Common.{TableSet, Method, Kept, method_in, methods_in, Body, AgreeAt, OneBody}
-use Rattle.acpidis.proofs.Common.{read, raw, all_lines, body_lines, BodyText, IsText, body_view, printed_lines, IsEntry}
+use Rattle.acpidis.proofs.Common.{read, raw, all_lines, body_lines, BodyText, IsText, body_view, printed_lines, ReadsOrRaw}
 use Rattle.acpidis.proofs.Common.{Became, Reading, reading_of, entry_of, ReadsIn, AreReadings}
 use Rattle.acpidis.proofs.Common.{AreBodies, has_raw, mark_of, marks_of, IsKept, AreKept, AreKeptOf, IsSame, has_fault}
 use Rattle.acpidis.proofs.Common.{tried_mark, tried_marks, get_or}
@@ -27,23 +27,23 @@ module _ (z : Bool) (x : TableSet) (es : List Entry) (stands : StandsFor x.space
   abbrev declared : Kept → Method
   declared = method_in x.space
 
-  is_entry : (m : Kept) (d : Reading) → ReadsIn z x m d → IsEntry z es (table_codes x.tables.items) (declared m) (entry_of d)
+  is_entry : (m : Kept) (d : Reading) → ReadsIn z x m d → ReadsOrRaw z es (table_codes x.tables.items) (declared m) (entry_of d)
   is_entry m (Ok us) h = (h es stands).0
   is_entry m (Err why) h = (h es stands).unread.none
 
   the_entry : (m : Kept) (d : Reading) (b : OneBody) → ReadsIn z x m d
-      → IsEntry z es (table_codes x.tables.items) (declared m) b → b ≡ entry_of d
+      → ReadsOrRaw z es (table_codes x.tables.items) (declared m) b → b ≡ entry_of d
   the_entry m (Ok us) (read ts) h e = ap read ((h es stands).1 ts e)
   the_entry m (Ok us) raw h e = absurd (e _ (h es stands).0)
   the_entry m (Err why) (read ts) h e = absurd ((h es stands).unread.none ts e)
   the_entry m (Err why) raw h e = refl
 
   pub are_entries : (ms : List Kept) (ds : List Reading) → AllZip (ReadsIn z x) ms ds
-      → AllZip (IsEntry z es (table_codes x.tables.items)) (methods_in x.space ms) (map entry_of ds)
-  are_entries ms ds h = all_zip_to (ReadsIn z x) (IsEntry z es (table_codes x.tables.items)) declared entry_of is_entry ms ds h
+      → AllZip (ReadsOrRaw z es (table_codes x.tables.items)) (methods_in x.space ms) (map entry_of ds)
+  are_entries ms ds h = all_zip_to (ReadsIn z x) (ReadsOrRaw z es (table_codes x.tables.items)) declared entry_of is_entry ms ds h
 
   pub the_entries : (ms : List Kept) (ds : List Reading) (bs : List OneBody) → AllZip (ReadsIn z x) ms ds
-      → AllZip (IsEntry z es (table_codes x.tables.items)) (methods_in x.space ms) bs → bs ≡ map entry_of ds
+      → AllZip (ReadsOrRaw z es (table_codes x.tables.items)) (methods_in x.space ms) bs → bs ≡ map entry_of ds
   the_entries [] [] [] h e = refl
   the_entries [] [] (b ∷ bs) h e = absurd e
   the_entries [] (d ∷ ds) bs h e = absurd h

@@ -3,7 +3,7 @@ pub use Rattle.acpi_tables.specs.Header.{HoldsTable, table_of}
 pub use Rattle.acpi_tables.specs.Order.{IsOrder, AreTables, bytes_of}
 pub use Rattle.acpi_tables.specs.declared.dump.Dump.{Dump}
 pub use Rattle.acpi_tables.specs.declared.order.Order.{Order}
-pub use Rattle.acpidis.specs.Bodies.{IsEntry, Became, Reading, reading_of, entry_of, ReadsIn, AreReadings, AreBodies}
+pub use Rattle.acpidis.specs.Bodies.{ReadsOrRaw, Became, Reading, reading_of, entry_of, ReadsIn, AreReadings, AreBodies}
 pub use Rattle.acpidis.specs.Bodies.{has_raw, codes_in}
 pub use Rattle.acpidis.specs.Checks.{mark_of, marks_of, IsKept, AreKept, AreKeptOf, IsSame, has_fault, tried_mark}
 pub use Rattle.acpidis.specs.Checks.{tried_marks, marks_in, IsUnder, Under, added}

@@ -4,7 +4,7 @@ use Rattle.acpidis.proofs.Common.{◌&&◌, filter, list_all, All-filter, AllPas
 use Rattle.acpidis.proofs.Common.{ℕ, suc, Bool, true, List, [], ◌∷◌}
 use Rattle.acpidis.proofs.Common.{refl, ap₂, map, Trees, Entry, AllZip, methods_of, span_of, Method, OneBody, read, raw}
 use Rattle.acpidis.proofs.Common.{names_in, blocks_of, Dump}
-use Rattle.acpidis.proofs.Common.{Options, Mark, IsEntry, same_bytes, body_same, marks_of, checks_with, tallied}
+use Rattle.acpidis.proofs.Common.{Options, Mark, ReadsOrRaw, same_bytes, body_same, marks_of, checks_with, tallied}
 use Rattle.acpidis.proofs.Common.{uncounted, all_same, Meaning}
 use Rattle.acpidis.proofs.Common.{Means, order_of, codes_of}
 use Rattle.acpidis.proofs.Spelling.{Spells, all_spelled}
@@ -13,7 +13,7 @@ use Rattle.std.proofs.lemmas.Slice.Eq.{bytes_eq-Decides}
 same_if : (xs ys : List ℕ) → xs ≡ ys → same_bytes xs ys ≡ true
 same_if xs ys = (bytes_eq-Decides xs ys).1
 
-entry_same : (z : Bool) (es : List Entry) (codes : List (List ℕ)) (m : Method) (b : OneBody) → IsEntry z es codes m b
+entry_same : (z : Bool) (es : List Entry) (codes : List (List ℕ)) (m : Method) (b : OneBody) → ReadsOrRaw z es codes m b
     → body_same (span_of codes m) b ≡ true
 entry_same z es codes m (read ts) h = same_if _ _ h.spelled
 entry_same z es codes m raw h = refl
@@ -24,7 +24,7 @@ kept_same test marks h = list_all-from_AllPass (λ m. m.same) (filter test marks
     (All-filter test (λ m. m.same ≡ true) marks (AllPass-from_list_all (λ m. m.same) marks h))
 
 marks_same : (z : Bool) (es : List Entry) (codes : List (List ℕ)) (ms : List Method) (bs : List OneBody)
-    → AllZip (IsEntry z es codes) ms bs
+    → AllZip (ReadsOrRaw z es codes) ms bs
     → list_all (λ m. m.same) (marks_of codes ms bs) ≡ true
 marks_same z es codes [] bs h = refl
 marks_same z es codes (m ∷ ms) [] h = refl

@@ -29,9 +29,9 @@ abbrev pub codes_in : List Dump → List ℕ → List (List ℕ)
 codes_in dumps order = map (λ index. drop 36 (table_of (bytes_of dumps index))) order
 
 -- what a listing has of a method: the terms that its body reads as, or its bytes, where the body reads as no terms
-abbrev pub IsEntry : Bool → List Entry → List (List ℕ) → Method → OneBody → Type 0
-IsEntry unknown_zero es tables m (read ts) = IsBody unknown_zero es tables m ts
-IsEntry unknown_zero es tables m raw = (ts : Trees) → IsBody unknown_zero es tables m ts → ⊥
+abbrev pub ReadsOrRaw : Bool → List Entry → List (List ℕ) → Method → OneBody → Type 0
+ReadsOrRaw unknown_zero es tables m (read ts) = IsBody unknown_zero es tables m ts
+ReadsOrRaw unknown_zero es tables m raw = (ts : Trees) → IsBody unknown_zero es tables m ts → ⊥
 
 -- whether a body is raw, and whether one of several is
 abbrev pub is_raw : OneBody → Bool

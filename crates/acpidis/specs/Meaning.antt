@@ -20,7 +20,7 @@ use Rattle.acpi_tables.specs.declared.order.Order.{Order}
 use Rattle.acpi_tables.specs.Header.{table_of}
 use Rattle.acpi_tables.specs.Order.{IsOrder, bytes_of}
 use Rattle.acpidis.specs.declared.options.Options.{Options}
-use Rattle.acpidis.specs.Bodies.{IsEntry, Became}
+use Rattle.acpidis.specs.Bodies.{ReadsOrRaw, Became}
 
 -- a listing: the indexes of the definition blocks in load order, their terms, what these declare, and a body for each
 -- method
@@ -46,7 +46,7 @@ pub record LoadsSet (dumps : List Dump) (options : Options) (k : Meaning) : Type
 -- namespace of all entries, or raw, where it reads as no terms.
 pub record Means (dumps : List Dump) (options : Options) (k : Meaning) : Type 0 where
   pub set : LoadsSet dumps options k
-  pub bodies : AllZip (IsEntry options.unknown_zero k.entries (codes_of dumps k)) (methods_of k.entries)
+  pub bodies : AllZip (ReadsOrRaw options.unknown_zero k.entries (codes_of dumps k)) (methods_of k.entries)
       k.bodies
 
 -- the rows of the namespace: the declared paths in order, each once, with what its declarations say

@@ -18,7 +18,7 @@ use Rattle.aml_namespace.specs.declared.kinds.Kind.TheVariants.{Method, Alias}
 use Rattle.aml_namespace.specs.Predefined.{predefined}
 use Rattle.aml_namespace.specs.Namespace.{Entry, declares, external, given}
 use Rattle.aml_namespace.specs.Namespace.{namespace_of, declared_at, same_path, outs_at, kind_at, decides}
-use Rattle.aml_namespace.specs.Namespace.{target_count, count_by, count_at, arity_at, arity_of, is_outside}
+use Rattle.aml_namespace.specs.Namespace.{target_count, count_of_kind, count_at, arity_at, arity_of, is_outside}
 use Rattle.aml_namespace.specs.Runs.{outlook_of, surely_declared}
 use Rattle.aml_namespace.specs.Runs.{kinds_at, sure_at, target_counts, counts_by, counts_of, counts_met, common}
 use Rattle.aml_namespace.specs.Runs.{arity_by_kinds}
@@ -167,7 +167,7 @@ module _ (es : List Entry) (rs : List Entry) (run : IsRun es rs) where
 
     by_kind : (k : Kind) → AllByRecursion (λ m. m ≡ n) (counts_by (outlook_of es) k)
         → leads (namespace_of rs) (Some k) ≡ true → (out : Option ℕ)
-        → count_by (namespace_of rs) (Some k) out ≡ Some n
+        → count_of_kind (namespace_of rs) (Some k) out ≡ Some n
     by_kind (Method args) all here out = ap Some all.0
     by_kind (Alias true target) all here out = absurd (untold all)
     by_kind (Alias false target) all here out = ap Some (by_target target (kinds_at es target) refl all here)
@@ -175,7 +175,7 @@ module _ (es : List Entry) (rs : List Entry) (run : IsRun es rs) where
 
     counted : (p : List Seg) → AllByRecursion (λ m. m ≡ n) (counts_of (outlook_of es) p) → (k : Kind)
         → kind_at (namespace_of rs) p ≡ Some k
-        → leads (namespace_of rs) (Some k) ≡ true → (out : Option ℕ) → count_by (namespace_of rs) (Some k) out ≡ Some n
+        → leads (namespace_of rs) (Some k) ≡ true → (out : Option ℕ) → count_of_kind (namespace_of rs) (Some k) out ≡ Some n
     counted p all k is = by_kind k (subst (λ o. IfSome o (λ l. AllByRecursion (λ m. m ≡ n) (counts_by (outlook_of es) l))) is
         (among p (λ l. AllByRecursion (λ m. m ≡ n) (counts_by (outlook_of es) l)) (λ t u told. absurd (untold told))
         (every_flat (λ m. m ≡ n) (counts_by (outlook_of es)) (kinds_at es p) all)))
@@ -197,7 +197,7 @@ module _ (es : List Entry) (rs : List Entry) (run : IsRun es rs) where
             (λ p. stands (namespace_of rs) locals p ≡ true → cond (set.contains locals p) (Some 0) (count_at (namespace_of rs) p) ≡ Some n)
         by true is o at rest all = λ here. ap (λ b. cond b (Some 0) (count_at (namespace_of rs) p)) is ∙ ap Some all.0
         by false is (Some k) at rest all = λ here. ap (λ b. cond b (Some 0) (count_at (namespace_of rs) p)) is
-            ∙ ap (λ o. count_by (namespace_of rs) o (outs_at rs p)) at
+            ∙ ap (λ o. count_of_kind (namespace_of rs) o (outs_at rs p)) at
             ∙ counted p (front (sure_at es p) all) k at (sym (λ i. is i || leads (namespace_of rs) (at i)) ∙ here) (outs_at rs p)
           where
             front : (sure : Bool) → AllByRecursion (λ m. m ≡ n)

@@ -15,7 +15,7 @@ use Rattle.aml_namespace.specs.declared.kinds.Kind.{Kind}
 use Rattle.aml_namespace.specs.declared.kinds.Kind.TheVariants.{Method, Alias}
 use Rattle.aml_namespace.specs.Predefined.{predefined}
 use Rattle.aml_namespace.specs.Namespace.{Entry, declares, external, given, same_path, kind_at, decides, is_outside}
-use Rattle.aml_namespace.specs.Namespace.{namespace_of, first_given, target_count, count_by, count_at, arity_at}
+use Rattle.aml_namespace.specs.Namespace.{namespace_of, first_given, target_count, count_of_kind, count_at, arity_at}
 use Rattle.aml_namespace.specs.Namespace.{arity_of}
 use Rattle.aml_namespace.specs.Runs.{Outlook, outlook_of, kinds_at, target_counts, counts_by, counts_of, counts_met}
 use Rattle.aml_namespace.specs.Runs.{common}
@@ -70,7 +70,7 @@ none_first (k ∷ ks) h = absurd (false≢true (ap is_some h))
 module _ (o : Outlook) (is : FirstCounts o) where
   -- where the counts of a kind and of others are all the same, that is the one by this kind
   first_by : (k : Kind) (out : Option ℕ) (others : List ℕ) (c : ℕ) → common (counts_by o k ++ others) ≡ Some c
-      → count_by o.first (Some k) out ≡ Some c
+      → count_of_kind o.first (Some k) out ≡ Some c
   first_by (Method args) out others c told = common_first (args ∷ others) c told
   first_by (Alias true target) out others c told = absurd (false≢true (ap is_some told))
   first_by (Alias false target) out others c told =
@@ -86,7 +86,7 @@ module _ (o : Outlook) (is : FirstCounts o) where
       by : (ks : List Kind) → slice_get ks 0 ≡ Some k → common (flat_map (counts_by o) ks) ≡ Some c
           → count_at o.first p ≡ Some c
       by [] here told = absurd (false≢true (ap is_some here))
-      by (l ∷ ks) here told = ap (λ x. count_by o.first x (o.first.outs p)) (at ∙ sym here)
+      by (l ∷ ks) here told = ap (λ x. count_of_kind o.first x (o.first.outs p)) (at ∙ sym here)
           ∙ first_by l (o.first.outs p) (flat_map (counts_by o) ks) c told
 
   abbrev IsTold : PathSet → Option (List Seg) → List ℕ → Type 0

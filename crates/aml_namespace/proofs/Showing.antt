@@ -17,7 +17,7 @@ use Rattle.aml_namespace.specs.declared.kinds.Kind.TheVariants.{Method, Alias}
 use Rattle.aml_namespace.specs.Predefined.{predefined}
 use Rattle.aml_namespace.specs.Namespace.{Entry, declares, external, given}
 use Rattle.aml_namespace.specs.Namespace.{namespace_of, declared_at, same_path, outs_at, kind_at, decides, is_outside}
-use Rattle.aml_namespace.specs.Namespace.{count_by, count_at, arity_at}
+use Rattle.aml_namespace.specs.Namespace.{count_of_kind, count_at, arity_at}
 use Rattle.aml_namespace.specs.Runs.{outlook_of, surely_declared}
 use Rattle.aml_namespace.specs.Runs.{kinds_at, sure_at, counts_by, counts_of, counts_met, common, IsRun, ended, taken}
 use Rattle.aml_namespace.specs.Runs.{missed, least_run, IsNoAlias, MeetNoAlias, HasInRun, EachIsMet, RunsDiffer}
@@ -126,14 +126,14 @@ module _ (es : List Entry) (locals : PathSet) where
       × ((p : List Seg) → same_path p q ≡ false → sure_at es p ≡ false → kind_at (namespace_of rs) p ≡ None)
 
   found_here : (q : List Seg) (paths : List (List Seg)) → set.contains locals q ≡ false → (k : Kind) (n : ℕ)
-      → ((rs : List Entry) → count_by (namespace_of rs) (Some k) (outs_at rs q) ≡ Some n) → IsShown es q k
+      → ((rs : List Entry) → count_of_kind (namespace_of rs) (Some k) (outs_at rs q) ≡ Some n) → IsShown es q k
       → IsFound (q ∷ paths) n
   found_here q paths other k n counts w = (
     w.0,
     w.1,
     q,
     (λ i. cond (other i || is_some (w.2 i)) (Some q) (find (decides (namespace_of w.0) locals) paths)),
-    (λ i. cond (other i) (Some 0) (count_by (namespace_of w.0) (w.2 i) (outs_at w.0 q))) ∙ counts w.0,
+    (λ i. cond (other i) (Some 0) (count_of_kind (namespace_of w.0) (w.2 i) (outs_at w.0 q))) ∙ counts w.0,
     w.3,
   )
 

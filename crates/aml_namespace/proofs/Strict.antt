@@ -16,7 +16,7 @@ use Rattle.aml_namespace.specs.Predefined.{predefined}
 use Rattle.aml_namespace.specs.Namespace.{Entry, declares, external, given, namespace_of}
 use Rattle.aml_namespace.specs.Namespace.{Namespace, declared_at, same_path, outs_at, kind_at, decides, is_outside}
 use Rattle.aml_namespace.specs.Namespace.{first_given}
-use Rattle.aml_namespace.specs.Namespace.{target_count, count_by, count_at, arity_at, arity_of}
+use Rattle.aml_namespace.specs.Namespace.{target_count, count_of_kind, count_at, arity_at, arity_of}
 use Rattle.aml_namespace.specs.Runs.{outlook_of, surely_declared, is_alias, is_open_alias, open_among, open_in}
 use Rattle.aml_namespace.specs.Runs.{kinds_at, sure_at, target_counts, counts_by, counts_of, counts_met, arity_met}
 use Rattle.aml_namespace.specs.Runs.{agreed_arity}
@@ -101,7 +101,7 @@ module _ (es : List Entry) (strict : AreSure es) where
       by (Some k) h = one (is_alias k) (is_open_alias k) h
 
   one_count : (k : Kind) (out : Option ℕ) → IsClosed k
-      → (c : ℕ) × (counts_by (outlook_of es) k ≡ c ∷ []) × (count_by (namespace_of es) (Some k) out ≡ Some c)
+      → (c : ℕ) × (counts_by (outlook_of es) k ≡ c ∷ []) × (count_of_kind (namespace_of es) (Some k) out ≡ Some c)
   one_count (Method args) out h = (args, refl, refl)
   one_count (Alias true target) out h = absurd (false≢true h)
   one_count (Alias false target) out h = (
@@ -131,7 +131,7 @@ module _ (es : List Entry) (strict : AreSure es) where
         c.0,
         ap (λ b. cond b (counts_of (outlook_of es) p) (counts_of (outlook_of es) p ++ counts_met (outlook_of es) locals paths)) (sure_same p ∙ ap is_some at)
             ∙ ap (flat_map (counts_by (outlook_of es))) (kinds_same p ∙ ap option_to_list at) ∙ ap (λ ns. ns ++ []) c.1,
-        ap (λ b. cond b (Some 0) (count_at (namespace_of es) p)) is ∙ ap (λ o. count_by (namespace_of es) o (outs_at es p)) at ∙ c.2,
+        ap (λ b. cond b (Some 0) (count_at (namespace_of es) p)) is ∙ ap (λ o. count_of_kind (namespace_of es) o (outs_at es p)) at ∙ c.2,
       )
       by false is None at rest = subst (IsMet (namespace_of es) locals (find (decides (namespace_of es) locals) paths))
           (sym (ap (λ b. cond b (counts_of (outlook_of es) p) (counts_of (outlook_of es) p ++ counts_met (outlook_of es) locals paths))

@@ -91,11 +91,11 @@ target_count (Some _) out = 0
 
 -- the count of a path by its kind: only a method takes arguments, and an Alias of one; without a kind that of its
 -- Externals
-abbrev pub count_by : Namespace → Option Kind → Option ℕ → Option ℕ
-count_by n None out = out
-count_by n (Some (Method args)) out = Some args
-count_by n (Some (Alias is_open target)) out = Some (target_count (kind_at n target) (n.outs target))
-count_by n (Some _) out = Some 0
+abbrev pub count_of_kind : Namespace → Option Kind → Option ℕ → Option ℕ
+count_of_kind n None out = out
+count_of_kind n (Some (Method args)) out = Some args
+count_of_kind n (Some (Alias is_open target)) out = Some (target_count (kind_at n target) (n.outs target))
+count_of_kind n (Some _) out = Some 0
 
 -- the count that the user gives to the first of these paths that has one
 abbrev pub first_given : Namespace → List (List Seg) → Option ℕ
@@ -107,7 +107,7 @@ first_given n (p ∷ paths) = option_or (n.givens p) (first_given n paths)
 abbrev pub arity_at : Namespace → Bool → PathSet → List (List Seg) → Option (List Seg) → Option ℕ
 arity_at n unknown_zero locals paths None = option_or (first_given n paths) (cond unknown_zero (Some 0) None)
 arity_at n unknown_zero locals paths (Some p) =
-    cond (set.contains locals p) (Some 0) (count_by n (kind_at n p) (n.outs p))
+    cond (set.contains locals p) (Some 0) (count_of_kind n (kind_at n p) (n.outs p))
 
 -- how many arguments a name takes in a method's body, by the path that it means
 abbrev pub arity_of : Namespace → Bool → List Seg → PathSet → Name → Option ℕ
@@ -130,7 +130,7 @@ is_outside n p = is_some (n.outs p)
 
 -- how many arguments a path takes
 abbrev pub count_at : Namespace → List Seg → Option ℕ
-count_at n p = count_by n (kind_at n p) (n.outs p)
+count_at n p = count_of_kind n (kind_at n p) (n.outs p)
 
 -- how many arguments a name takes that leads nowhere
 abbrev pub unknown_count : Namespace → Bool → List (List Seg) → Option ℕ

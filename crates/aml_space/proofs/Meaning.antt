@@ -15,7 +15,7 @@ use Rattle.aml_namespace.specs.declared.kinds.Kind.TheVariants.{Method, Alias}
 use Rattle.aml_space.specs.declared.nodes.Node.{Node}
 use Rattle.aml_space.specs.declared.scopes.Candidate.{Candidate}
 use Rattle.aml_namespace.specs.Predefined.{predefined}
-use Rattle.aml_namespace.specs.Namespace.{Namespace, kind_at, count_at, count_by, arity_at, unknown_count, first_of}
+use Rattle.aml_namespace.specs.Namespace.{Namespace, kind_at, count_at, count_of_kind, arity_at, unknown_count, first_of}
 use Rattle.aml_namespace.specs.Namespace.{decides, is_outside}
 use Rattle.aml_namespace.specs.Known.{namespace_in}
 use Rattle.aml_namespace.specs.Runs.{is_known}
@@ -44,13 +44,13 @@ module _ (ns : List Node) (shape : IsShape ns) (p : List Seg) (node : Option ℕ
   known_of_met standing is = λ i. is_some (kind_of_met standing is i) || is_some (out_of_met i)
 
   pub count_of_met : (standing : Option Kind) → standing ≡ predefined p →
-      count_by (namespace_in (known_by ns)) (option_or (option_and_then (kinds_of ns) node) standing) (option_and_then (outs_of ns) node)
+      count_of_kind (namespace_in (known_by ns)) (option_or (option_and_then (kinds_of ns) node) standing) (option_and_then (outs_of ns) node)
       ≡ count_at (namespace_in (known_by ns)) p
-  count_of_met standing is = λ i. count_by (namespace_in (known_by ns)) (kind_of_met standing is i) (out_of_met i)
+  count_of_met standing is = λ i. count_of_kind (namespace_in (known_by ns)) (kind_of_met standing is i) (out_of_met i)
 
 -- a kind has a count
 kind_counts : (n : Namespace) (k : Kind) (o other : Option ℕ)
-    → option_or (count_by n (Some k) o) other ≡ count_by n (Some k) o
+    → option_or (count_of_kind n (Some k) o) other ≡ count_of_kind n (Some k) o
 kind_counts n (Method args) o other = refl
 kind_counts n (Alias is_open target) o other = refl
 kind_counts n _ o other = refl
@@ -63,10 +63,10 @@ placed n u locals p = by (set.contains locals p) refl (kind_at n p) refl (n.outs
   where
     by : (a : Bool) → set.contains locals p ≡ a → (k : Option Kind) → kind_at n p ≡ k → (o : Option ℕ) → n.outs p ≡ o →
         arity_at n u locals (p ∷ []) (option_or (cond (a || is_some k) (Some p) None) (cond (is_some o) (Some p) None))
-        ≡ cond a (Some 0) (option_or (count_by n k o) (unknown_count n u (p ∷ [])))
+        ≡ cond a (Some 0) (option_or (count_of_kind n k o) (unknown_count n u (p ∷ [])))
     by true a k e o f = ap (λ b. cond b (Some 0) (count_at n p)) a
-    by false a (Some k) e o f = ap (λ b. cond b (Some 0) (count_at n p)) a ∙ (λ i. count_by n (e i) (f i)) ∙ sym (kind_counts n k o _)
-    by false a None e (Some x) f = ap (λ b. cond b (Some 0) (count_at n p)) a ∙ (λ i. count_by n (e i) (f i))
+    by false a (Some k) e o f = ap (λ b. cond b (Some 0) (count_at n p)) a ∙ (λ i. count_of_kind n (e i) (f i)) ∙ sym (kind_counts n k o _)
+    by false a None e (Some x) f = ap (λ b. cond b (Some 0) (count_at n p)) a ∙ (λ i. count_of_kind n (e i) (f i))
     by false a None e None f = refl
 
 -- the tests of a candidate that is no local are those of its path

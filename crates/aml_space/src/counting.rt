@@ -3,7 +3,7 @@ ghost use Rattle.std.specs.Prelude.{◌≡◌, ◌<◌, ◌∷◌, ◌||◌, Lis
 ghost use Rattle.std.specs.Prelude.{option_to_list, IfSome, ◌&&◌, not, nat_lt, Bool, false};
 ghost use Rattle.std.specs.List.{list_all, list_any};
 ghost use Rattle.std.specs.Option.{option_or, option_and_then, option_copied};
-ghost use Rattle.aml_namespace.specs.Namespace.{kind_at as kind_of_path, count_at, count_by, target_count};
+ghost use Rattle.aml_namespace.specs.Namespace.{kind_at as kind_of_path, count_at, count_of_kind, target_count};
 ghost use Rattle.aml_namespace.specs.Known.{namespace_in, outlook_in, kinds_by, sure_by};
 ghost use Rattle.aml_namespace.specs.Runs.{target_counts, counts_by, opens_scope as opens_a_scope, is_alias};
 ghost use Rattle.aml_namespace.specs.Runs.{is_open_alias as is_open_kind, open_among};
@@ -57,7 +57,7 @@ pub(crate) fn count_met(
     requires aimed { IsAimed nodes.now }
     requires within { IfSome node (λ i. i < length nodes.now) }
     ensures { result
-        ≡ count_by (namespace_in (known_by nodes.now))
+        ≡ count_of_kind (namespace_in (known_by nodes.now))
         (option_or (option_and_then (kinds_of nodes.now) node) (option_copied standing.entry))
         (option_and_then (outs_of nodes.now) node) }
 {
