@@ -12,6 +12,7 @@ word of the kit's library that the definitions name has to stand in its last tab
 page is compared with docs/meaning.md. The last line is 'N passed, N failed'.
 """
 
+import itertools
 import re
 import sys
 
@@ -87,7 +88,7 @@ class Definition:
         self.file, self.section, self.lines, self.around, self.code = file, section, lines, around, code_of(lines)
         self.group = (file, file.groups)
         self.names, self.forms = names_in(self.code)
-        self.uses, self.types, self.kit = [], [], []
+        self.uses, self.types, self.kit, self.renamed = [], [], [], []
         rows = [line for line in self.code if re.match(r"\s+∷ ", line) or line.endswith(" ∷")]
         self.steps = [step for step in map(STEP.fullmatch, self.code[1:]) if step]
         self.rows = len(self.steps) or (len(rows) if len(rows) >= LEAST_ROWS else 0)
@@ -179,7 +180,7 @@ class Sources:
 
     def resolve(self, definition):
         """Fills in what a definition names, in the order in which it does."""
-        text = re.sub(r'"[^"]*"', " ", "\n".join([*definition.around, *definition.code]))
+        text = re.sub(r'"(?:\\.|[^"\\])*"', " ", "\n".join([*definition.around, *definition.code]))
         for match in WORD.finditer(text):
             self.note(definition, match[1], match[2])
         infixes = {**definition.file.imports, **self.modules[definition.file.crate, definition.file.name]}
@@ -193,6 +194,9 @@ class Sources:
             path, name = file.aliases[prefix], word
         else:
             path, name = file.imports.get(prefix or word, (f"Rattle.{file.crate}.specs.{file.name}", prefix or word))
+            owner = f"`{path.split('.')[1]}`" + ("'s sources" if ".declared." in path else "")
+            owner = "the kit" if path.startswith(("Rattle.std.", "lib.")) else owner
+            definition.renamed += [f"`{prefix or word}` is `{name}` of {owner}"] if name != (prefix or word) else []
         _, crate, *module = path.split(".")
         used = self.modules.get((crate, *module[1:]), {}).get(name)
         owners = [self.types[crate, it] for it in module if module[1:2] == ["declared"] and (crate, it) in self.types]
@@ -257,22 +261,24 @@ class Page:
 
     def part(self, title, roots, others):
         definitions = topmost_first(roots, lambda it: [used for used in it.uses if used not in others])
-        shown, file, inside = len(self.shown), None, set(definitions)
+        shown, inside = len(self.shown), set(definitions)
         sections = {it.section: in_groups([d for d in definitions if d.section == it.section]) for it in definitions}
         self.lines += [f"## {title}", ""]
         if title == ADDED[0]:
             self.lines += ["Cut off at " + ", ".join(f"`{name}`" for it in roots for name in it.names) + ": what is met through these alone.", ""]
-        for section in topmost_first(list(sections), lambda it: [u.section for d in sections[it] for u in d.uses if u in inside]):
-            if section[0] is not file:
-                file = section[0]
-                self.lines += [f"### `{file.name}` of `{file.crate}`", ""]
-            self.section(section[1], sections[section])
+        order = topmost_first(list(sections), lambda it: [u.section for d in sections[it] for u in d.uses if u in inside])
+        for file, some in itertools.groupby(order, lambda it: it[0]):
+            some = list(some)
+            renamed = dict.fromkeys(words for it in some for d in sections[it] for words in d.renamed)
+            self.lines += [f"### `{file.name}` of `{file.crate}`", "", *([f"Here {', '.join(renamed)}.", ""] if renamed else [])]
+            for section in some:
+                self.section(section[1], sections[section])
         self.parts.append((title, self.known[-len(definitions) :], [it for it in self.shown[shown:] if not it.seen and not it.stepped]))
 
     def fault_types(self):
         """The types of FAULTS, behind all that an Ok is made of."""
         types = [it for name in FAULTS[1] for (_, other), it in self.sources.types.items() if other == name]
-        self.lines += [f"## {FAULTS[0]}", "", "No definition of what an Ok means names these.", ""]
+        self.lines += [f"## {FAULTS[0]}", "", "No statement on this page says what these hold.", ""]
         self.block("rust", [line for it in types for line in [*it.lines, ""]])
         self.parts.append((FAULTS[0], [], types))
 
@@ -291,7 +297,7 @@ class Page:
             if types:
                 self.block("antt", block)
                 self.block("rust", [line for it in types if not it.seen and not it.stepped for line in [*it.lines, ""]])
-                seen = [f"a `{it.name}` as `{it.seen}`" for it in types if it.seen]
+                seen = [f"{'an' if it.name[0] in 'AEIOU' else 'a'} `{it.name}` as `{it.seen}`" for it in types if it.seen]
                 self.lines += [f"Definitions see {', '.join(seen)}.", ""] if seen else []
                 block = []
         self.block("antt", block)
@@ -362,6 +368,13 @@ def words_of_head(head):
     return {word for cell in cells for word in re.findall(r"`([^` ]+)[^`]*`", cell.replace("\\|", "|"))}
 
 
+def unused_in(head, lines):
+    """The words of the head's list and of its first table that no line behind it has."""
+    text, cells = "\n".join(lines), re.findall(r"^\| (`.*?`) \|", head.split("\n## ")[-2], re.MULTILINE)
+    signs = [sign for cell in cells for sign in re.findall(r"[\w\-]{2,}|[^\w\s(){}.,:=`]", cell) if sign not in text]
+    return signs + [word for word in re.findall(r"\*\*(.*?)\*\*", head) if not re.search(rf"(?i)\b{word[:-1]}\w?s?\b", text)]
+
+
 def main():
     sources, head = Sources(), HEAD.read_text()
     page = Page(sources)
@@ -376,6 +389,8 @@ def main():
     checks.is_so(f"PARTS, ADDED, PRINTED: no specs have {lost}", not lost)
     checks.is_so(f"these stand behind what they are made of: {late}", not late)
     checks.is_so(f"tests/meaning_words.md and the definitions: {strange}", not strange)
+    unused = unused_in(head, page.lines)
+    checks.is_so(f"tests/meaning_words.md has what the page never uses: {unused}", not unused)
     checks.is_so(f"docs/meaning.md is made anew by --write; it differs in line {other}", there == text)
     checks.end()
 
