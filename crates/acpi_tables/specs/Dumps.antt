@@ -1,4 +1,4 @@
--- Dumps of tables, one at a time: which of them are taken, and what each refusal says of the bytes.
+-- Dumps of tables, one at a time: which of them are taken.
 use Rattle.std.specs.Prelude.{◌≡◌, ℕ, ◌<◌, ◌≤◌, ◌⊎◌, ◌||◌, ⊤, Bool, true, false, List, codes, length, nat_eq}
 use Rattle.std.specs.Prelude.{if◌then◌else◌}
 use Rattle.acpi_tables.specs.Bytes.{begins_with, checksum, HasLength}
@@ -11,9 +11,9 @@ use Rattle.acpi_tables.specs.declared.dump.Kind.TheVariants.{Root, Facs, Standar
 use Rattle.acpi_tables.specs.declared.faults.Bad.{Bad}
 use Rattle.acpi_tables.specs.declared.faults.Bad.TheVariants.{TooLarge, Short, BadSum, BadRoot, FadtShort}
 
--- A dump that is taken, by its signature: a pointer; a FACS (ACPI 6.5, section 5.2.10), which has no standard header
--- and no checksum; or a table with the header. Of four tables what is read behind it can be read, of a FADT the fields
--- up to Flags, which are those of ACPI 1.0. `any_sum` takes any checksum.
+-- A dump that is taken, of at most 16 MiB, by its signature: a pointer; a FACS (ACPI 6.5, section 5.2.10), which has no
+-- standard header and no checksum; or a table with the header. Of an XSDT, an RSDT and a MADT what stands behind the
+-- header is whole; a FADT has the 116 bytes up to the end of Flags. `any_sum` takes any checksum.
 pub record HoldsDump (any_sum : Bool) (bytes : List ℕ) : Type 0 where
   pub small : length bytes ≤ 16777216
   pub root : begins_with bytes (codes "RSD PTR ") ≡ true → HoldsRoot bytes × (any_sum ≡ false → root_sums bytes ≡ true)
@@ -53,7 +53,7 @@ sums_hold Root bytes = root_sums bytes
 sums_hold Facs bytes = true
 sums_hold (Standard content) bytes = nat_eq (checksum (table_of bytes)) 0
 
--- What is read of it can be read: of a FADT the fields up to Flags, which are those of ACPI 1.0.
+-- What is read of it can be read: of a FADT the fields up to Flags.
 abbrev pub HoldsContent : Kind → List ℕ → Type 0
 HoldsContent (Standard Xsdt) bytes = HoldsAddresses 8 (table_of bytes)
 HoldsContent (Standard Rsdt) bytes = HoldsAddresses 4 (table_of bytes)

@@ -3,7 +3,7 @@ use Rattle.std.specs.Prelude.{ℕ, List, [], ◌∷◌, map, Option, Some}
 use Rattle.acpi_tables.specs.Bytes.{Field, hex}
 use Rattle.acpi_tables.specs.declared.fadt.Fadt.{Fadt}
 
--- the fields, each with what was read of it
+-- the fields; the functions behind them are for the code's values
 abbrev pub fadt_rows : List (Field × (Fadt → Option ℕ))
 fadt_rows =
     (hex 36 4 "FirmwareCtrl", λ f. Some f.firmware_ctrl) ∷

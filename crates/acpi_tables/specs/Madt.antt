@@ -1,6 +1,6 @@
 -- The Multiple APIC Description Table (ACPI 6.5, section 5.2.12, tables 5.19 to 5.21): two fields, and then records up
--- to its end. The kinds of records that are read here are data (sections 5.2.12.2, 5.2.12.3, 5.2.12.5 to 5.2.12.8,
--- 5.2.12.12 and 5.2.12.13).
+-- to its end. `madt_rows` lists the kinds of records whose fields are shown (sections 5.2.12.2, 5.2.12.3, 5.2.12.5 to
+-- 5.2.12.8, 5.2.12.12 and 5.2.12.13).
 use Prim.Native.String.{String}
 use Rattle.std.specs.Prelude.{◌≡◌, ℕ, zero, suc, ◌+◌, ◌<◌, ◌≤◌, ◌&&◌, Bool, List, [], ◌∷◌, codes, length}
 use Rattle.std.specs.Prelude.{take, drop, map, find, nat_eq, nat_le, Option, Some, None, if◌then◌else◌}

@@ -1,4 +1,4 @@
--- The order in which the definition blocks of a set of dumps are loaded, and what each refusal of a set says of it.
+-- The order in which the definition blocks of a set of dumps are loaded.
 use Rattle.std.specs.Prelude.{◌≡◌, ℕ, ◌<◌, ◌≤◌, ◌⊎◌, ◌&&◌, ⊤, not, Bool, List, [], ◌∷◌, ◌++◌, codes}
 use Rattle.std.specs.Prelude.{length, take, map, reverse, filter, filter_map, find, position, take_while}
 use Rattle.std.specs.Prelude.{slice_index_or, nat_eq, nat_le, IsPermutation, IsSorted, string_bytes, if◌then◌else◌}
@@ -37,7 +37,7 @@ has_signature dumps signature index = begins_with (bytes_of dumps index) signatu
 abbrev pub stem_of : List ℕ → List ℕ
 stem_of name = let stem = before_last (λ c. nat_eq c 46) name in if nat_eq (length stem) 0 then name else stem
 
--- the number that ends the stem of a file's name, of whose digits the last nine count
+-- the number that ends the stem of a file's name, of whose digits the last nine count; 0 where none ends it
 abbrev pub ending_number : List ℕ → ℕ
 ending_number name = digits_value 10 (reverse (take 9 (take_while is_ascii_digit (reverse (stem_of name)))))
 
@@ -63,7 +63,7 @@ is_addressed dumps = list_any (λ dump. is_some dump.address) dumps
 abbrev pub dump_at : List Dump → ℕ → Option ℕ
 dump_at dumps address = position (λ dump. option_eq nat_eq dump.address (Some address)) dumps
 
--- the first dump at an address, if it has a signature
+-- the first dump at an address, if it has this signature; no later dump at that address is tried
 abbrev pub signed_at : List Dump → List ℕ → ℕ → Option ℕ
 signed_at dumps signature address =
     option_and_then (λ index. then_some (has_signature dumps signature index) index) (dump_at dumps address)
@@ -84,7 +84,7 @@ abbrev pub listed_by : List Dump → ℕ → List ℕ
 listed_by dumps list = fold with_more [] (filter_map (dump_at dumps)
     (addresses_of (if has_signature dumps (codes "XSDT") list then 8 else 4) (table_of (bytes_of dumps list))))
 
--- the DSDT's address in a FADT: X_DSDT where the table reaches to its end and it isn't 0, else DSDT
+-- the DSDT's address in a FADT: X_DSDT where the table has its 8 bytes, 148 in all, and it isn't 0, else DSDT
 abbrev pub dsdt_address : List ℕ → ℕ
 dsdt_address table =
     if nat_le 148 (length table) && not (nat_eq (number_at table 140 8) 0) then number_at table 140 8
@@ -102,8 +102,9 @@ pub record IsChained (dumps : List Dump) (dsdt : ℕ) (ssdts : List ℕ) : Type 
   pub gives : signed_at dumps (codes "DSDT") (dsdt_address (table_of (bytes_of dumps fadt))) ≡ Some dsdt
   pub all : filter (has_signature dumps (codes "SSDT")) (listed_by dumps list) ≡ ssdts
 
--- The order of the definition blocks, of dumps that are each taken by itself. There is at most one, and none where a
--- refusal stands.
+-- The order of the definition blocks, of dumps that are each taken by itself. At most one order holds, and none where
+-- `load_order` refuses, but for want of memory (proved: its `only` and `none`). The definition blocks are the DSDT and
+-- the SSDTs alone: a PSDT (5.2.11.3) is a table like any other.
 pub record IsOrder (dumps : List Dump) (any_sum : Bool) (dsdt : ℕ) (ssdts : List ℕ) : Type 0 where
   pub few : length dumps ≤ 512
   pub each : (index : ℕ) → index < length dumps → HoldsDump any_sum (bytes_of dumps index)

@@ -8,10 +8,10 @@ use thiserror::Error;
 /// What is wrong with a table, or with a set of tables. It displays as the variant's name.
 #[derive(Clone, Copy, Debug, Error)]
 pub enum Bad {
-    /// More than [`MAX_DUMPS`](crate::MAX_DUMPS) dumps.
+    /// More than 512 dumps.
     #[error("TooManyTables")]
     TooManyTables,
-    /// A dump of more than [`MAX_DUMP_BYTES`](crate::MAX_DUMP_BYTES) bytes.
+    /// A dump of more than 16,777,216 bytes.
     #[error("TooLarge")]
     TooLarge,
     /// A table that is shorter than its header or than its Length.

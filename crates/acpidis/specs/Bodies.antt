@@ -1,4 +1,4 @@
--- The AML of definition blocks, and what becomes of the bodies of methods: terms, or bytes where a body reads as none.
+-- The AML of definition blocks, and what becomes of the bodies of methods: terms, or raw where a body reads as none.
 use Rattle.std.specs.Prelude.{ℕ, List, drop, map, ◌≡◌, ◌<◌, ◌≤◌, Bool, true, false, length, slice_get, All, Vec, Err}
 use Rattle.std.specs.Prelude.{Ok, Result, IfSome}
 use Rattle.acpi_tables.specs.declared.dump.Dump.{Dump}
@@ -28,7 +28,7 @@ use Rattle.acpidis.specs.declared.bodies.Unread.{Unread}
 abbrev pub codes_in : List Dump → List ℕ → List (List ℕ)
 codes_in dumps order = map (λ index. drop 36 (table_of (bytes_of dumps index))) order
 
--- what a listing has of a method: the terms that its body reads as, or its bytes, where the body reads as no terms
+-- what a listing has of a method: the terms that its body reads as; or raw, where the body reads as no terms
 abbrev pub ReadsOrRaw : Bool → List Entry → List (List ℕ) → Method → OneBody → Type 0
 ReadsOrRaw unknown_zero es tables m (read ts) = IsBody unknown_zero es tables m ts
 ReadsOrRaw unknown_zero es tables m raw = (ts : Trees) → IsBody unknown_zero es tables m ts → ⊥

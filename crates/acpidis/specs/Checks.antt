@@ -36,11 +36,11 @@ body_same bytes raw = true
 abbrev pub mark_of : List (List ℕ) → Method × OneBody → Mark
 mark_of codes p = record { table = p.0.table; raw = is_raw p.1; same = body_same (span_of codes p.0) p.1 }
 
--- of methods with their bodies
+-- the marks of all methods, with their bodies
 abbrev pub marks_of : List (List ℕ) → List Method → List OneBody → List Mark
 marks_of codes ms bs = map (mark_of codes) (zip ms bs)
 
--- of those of table t
+-- the marks of table t's methods
 abbrev pub marks_in : ℕ → List Mark → List Mark
 marks_in t marks = filter (λ m. nat_eq m.table t) marks
 
@@ -53,7 +53,7 @@ uncounted b = record {
   same = same_bytes (encodings b.code b.terms) b.code;
 }
 
--- and when these are counted too
+-- a table with its methods counted
 abbrev pub tally : List Mark → Checked → Checked
 tally inside c =
     record {
@@ -63,7 +63,7 @@ tally inside c =
       same = c.same && list_all (λ m. m.same) inside;
     }
 
--- of the tables from number t on, each with its methods
+-- what `check` says of the tables from number t on, by the marks of the methods
 abbrev pub tallied : List Mark → ℕ → List Checked → List Checked
 tallied marks t [] = []
 tallied marks t (c ∷ cs) = tally (marks_in t marks) c ∷ tallied marks (suc t) cs
@@ -82,8 +82,9 @@ checks_of x =
 abbrev pub all_same : List Checked → Bool
 all_same cs = list_all (λ c. c.same) cs
 
--- ---- its lines
+-- ---- The lines of `check`.
 
+-- of a listing that dumps mean always ` Same`
 abbrev pub same_word : Bool → List ℕ
 same_word true = word " Same\n"
 same_word false = word " Differs\n"
@@ -92,7 +93,7 @@ unfoldable pub check_head : List ℕ → Checked → List ℕ
 check_head name c = (word "Check " ++ quoted name) ++ (word " Bytes " ++ decimal c.bytes)
     ++ (word " Methods " ++ decimal c.methods)
 
--- the line of a table, by its file's name
+-- the line of a table, by its file's name: `Check "FILE" Bytes N Methods N Raw N Same`
 unfoldable pub check_line : List ℕ → Checked → List ℕ
 check_line name c = check_head name c ++ (word " Raw " ++ decimal c.raw) ++ same_word c.same
 

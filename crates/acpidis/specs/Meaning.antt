@@ -36,7 +36,8 @@ abbrev pub codes_of : List Dump → Meaning → List (List ℕ)
 codes_of dumps k = map (λ index. drop 36 (table_of (bytes_of dumps index))) (k.dsdt ∷ k.ssdts)
 
 -- The dumps have this order, and the AML of its tables loads to these trees and entries. Nothing is said of the bodies
--- of methods. A name outside them whose count nothing tells takes none only with both options.
+-- of methods. Outside them a name that leads nowhere, and has no given count, takes none inside a declaration;
+-- elsewhere only with both options.
 pub record LoadsSet (dumps : List Dump) (options : Options) (k : Meaning) : Type 0 where
   pub order : IsOrder dumps options.any_sum k.dsdt k.ssdts
   pub loads : LoadsTo options.any_run (options.any_run && options.unknown_zero) options.externals.items
@@ -63,7 +64,7 @@ text_of dumps k = listing_text dumps (k.dsdt ∷ k.ssdts) (rows_of k.entries) (c
 abbrev pub order_of : Meaning → List ℕ
 order_of k = k.dsdt ∷ k.ssdts
 
--- whether a name outside the methods whose count nothing tells takes none
+-- whether a name outside the methods that leads nowhere, and has no given count, takes none outside declarations too
 abbrev pub none_unknown : Options → Bool
 none_unknown options = options.any_run && options.unknown_zero
 
@@ -90,7 +91,8 @@ pub record HoldsSet (order : Order) (loaded : Loaded) (dumps : List Dump) (k : M
   pub ssdts : order.ssdts.items ≡ k.ssdts
   pub holds : HoldsLoad loaded (codes_of dumps k) k.trees k.entries
 
--- a listing in memory is this one, of these dumps
+-- A listing in memory is this one, of these dumps. Who read a body (`drawn`), and a raw body's fault, are free here:
+-- `AreDrawn` and `Told` say these.
 pub record Shows (x : Listing) (dumps : List Dump) (k : Meaning) : Type 0 where
   pub same_dumps : x.dumps.now ≡ dumps
   pub set : HoldsSet x.order x.loaded dumps k

@@ -23,7 +23,7 @@ pub struct Checked {
     pub methods: u32,
     /// How many of their bodies can't be read.
     pub raw: u32,
-    /// Whether its terms, and those of its methods' bodies, encode to its bytes again.
+    /// Whether its terms, and those of its methods' bodies, encode to its bytes again: always so of what dumps mean.
     pub same: bool,
 }
 

@@ -8,9 +8,9 @@ pub struct Options {
     pub any_sum: bool,
     /// Whether the code of tables outside methods may run, so that they are read as whatever a run of it would declare.
     pub any_run: bool,
-    /// Whether a name of which nothing tells an argument count is taken to have none.
+    /// Whether a name that leads nowhere, and has no given count, is taken to have no arguments.
     pub unknown_zero: bool,
-    /// Argument counts of paths that no table declares or names by an External. Of a name that leads nowhere, the first
-    /// of the paths that it may mean decides, and the greatest count of it.
+    /// Argument counts, 0 to 7, by path. They count for a name that leads nowhere, and, with `any_run`, for one whose
+    /// counts differ: of the paths that it may mean the first with such a count, and the greatest there.
     pub externals: Vec<(Path, ArgumentCount)>,
 }

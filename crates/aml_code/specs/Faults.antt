@@ -1,4 +1,4 @@
--- What a fault says of the byte at its offset.
+-- Counts and levels, bytes at an offset, and what a fault says of the byte at its offset.
 use Rattle.std.specs.Prelude.{◌≡◌, ◌≢◌, ℕ, ◌+◌, ◌/◌, ◌%◌, ◌<◌, ◌≤◌, true, false, List, [], ◌++◌, length, Option, Some}
 use Rattle.std.specs.Prelude.{None, slice_get, ◌⊎◌}
 use Rattle.aml_names.specs.declared.faults.CodeFault.{CodeFault}

@@ -78,7 +78,7 @@ abbrev pub with_path : PathSet → Option (List Seg) → PathSet
 with_path ls None = ls
 with_path ls (Some p) = set.insert ls p
 
--- those of a term itself, by its row
+-- these paths, and those that a term declares itself, by its row
 abbrev pub declared_by : Option (List Seg) → Option Row → PathSet → Parts → Tail → PathSet
 declared_by scope None ls ps t = ls
 declared_by scope (Some row) ls ps t = with_declared scope ls (names_declared row.role ps t)
@@ -101,6 +101,12 @@ abbrev mutual
 
 -- ---- Which trees are AML (ACPI 6.5, 20.2): what each position takes, what each row is made of, how many arguments a
 -- name has.
+--
+-- Wider than 20.2: a text has bytes 01 to FF; the byte 00 stands as any SuperName, as of an Increment; a value alone,
+-- or a name that is no method, stands as a term of a body; a name stands as any data object.
+-- Narrower: no call stands as a SuperName or a Target; no Method, Scope, Device, Processor, PowerResource or
+-- ThermalZone in a body; in a table only declarations and guards, unless its code may run, and never a Return; at most
+-- 512 levels.
 
 -- What the grammar leaves to where the terms stand: the code that spans point into, how many arguments a name takes by
 -- the paths declared so far, and the scope from which a body's declarations are placed (none in a table).
@@ -174,7 +180,7 @@ IsPart Is part_kinds.Qword (qword n) = n < 256 ^ 8
 IsPart Is part_kinds.Text (text bs) = All (λ b. (0 < b) × (b < 256)) bs
 IsPart Is _ _ = ⊥
 
--- one part of each kind
+-- parts of these kinds, in order
 abbrev pub AreParts : (Position → Tree → Type 0) → List PartKind → Parts → Type 0
 AreParts Is [] no_parts = Unit {0}
 AreParts Is (k ∷ ks) (part_more x xs) = IsPart Is k x × AreParts Is ks xs
@@ -194,7 +200,8 @@ abbrev pub AreFields : (Position → Tree → Type 0) → Fields → Type 0
 AreFields Is no_fields = Unit {0}
 AreFields Is (field_more u us) = IsField Is u × AreFields Is us
 
--- A list of terms, of arguments or of elements: each declares for those behind it.
+-- A list of terms, of arguments or of elements, from the left. What a term declares counts behind it; arguments and
+-- elements declare nothing.
 abbrev pub TermsStand : Setting → (Position → PathSet → Tree → Type 0) → Position → PathSet → Trees → Type 0
 TermsStand s Is p ls no_trees = Unit {0}
 TermsStand s Is p ls (tree_more t ts) = Is p ls t × TermsStand s Is (next_position p t) (after s.scope ls t) ts
@@ -244,14 +251,14 @@ AreTerms s levels = TermsStand s (IsLawful s levels)
 abbrev pub setting_of : Arities → Option (List Seg) → List ℕ → Setting
 setting_of arity scope code = record { code = code; arity = arity; scope = scope }
 
--- The bytes of a method's body read as these terms: they are lawful from no declared path on, with at most 512 levels,
--- and they are spelled by the bytes. Declarations are placed from the method's path.
+-- The bytes of a method's body read as these terms: they are lawful, where at first there are no locals, with at most
+-- 512 levels, and they are spelled by the bytes. Declarations are placed from the method's path.
 pub record ReadsBody (arity : Arities) (method : List Seg) (code : List ℕ) (ts : Trees) : Type 0 where
   pub lawful : AreTerms (setting_of arity (Some method) code) 512 positions.BodyTerm set.empty ts
   pub spelled : encodings code ts ≡ code
 
--- each method's body begins where it stands in the encoding, if that begins at an offset: behind what the term is
--- without its tail
+-- The encoding begins at this offset. Then the span of each method's body begins right behind its term's opcode,
+-- package length and parts.
 abbrev mutual
   pub BodiesStand : List ℕ → ℕ → Trees → Type 0
   BodiesStand code at no_trees = Unit {0}

@@ -1,6 +1,6 @@
 -- The opcodes of AML, a line each, in the order of the standard's sections (ACPI 6.5, 20.2.3 to 20.2.6): the opcode,
--- the mnemonic, its class, what stands behind it in fixed places, what follows up to the end of its package, and what
--- it does to the namespace. A two-byte opcode `5B xx` is 0x5Bxx.
+-- the mnemonic, the group, the place, the parts, the tail and the role. A two-byte opcode `5B xx` is 0x5Bxx. LNotEqual,
+-- LLessEqual and LGreaterEqual (92 93, 92 94, 92 95) are LNot around LEqual, LGreater and LLess.
 use Prim.Native.String.{String}
 use Rattle.std.specs.Prelude.{ℕ, List, [], ◌∷◌, codes, ◌==◌, Bool, true, false, Option, Some}
 use Rattle.std.specs.Prelude.{None, is_some, find}

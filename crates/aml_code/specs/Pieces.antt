@@ -1,4 +1,5 @@
--- The pieces of terms, in the order of their bytes: what a reader tells that makes no tree (ACPI 6.5, 20.2).
+-- The levels of lines, and the pieces of terms that a reader tells without a tree, in the order of their bytes
+-- (ACPI 6.5, 20.2).
 use Rattle.std.specs.Prelude.{ℕ, suc, ◌+◌, List, [], ◌∷◌, ◌++◌, Option, Some, length, min}
 use Rattle.aml_names.specs.declared.names.Name.{Name}
 use Rattle.aml_code.specs.declared.packages.PkgWidth.{PkgWidth}
@@ -30,7 +31,7 @@ pub data Told : Type 0 where
   link : Told
   end_of_link : Told
 
--- the level of the lines inside a line's block (a machine number)
+-- the level of the lines inside a line's block: at most 2^32 - 1, which 512 levels never reach
 abbrev pub deeper : ℕ → ℕ
 deeper level = min (level + 1) 4294967295
 

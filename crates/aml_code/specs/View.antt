@@ -24,7 +24,8 @@ abbrev pub fields_from : List Field → Fields
 fields_from [] = no_fields
 fields_from (u ∷ us) = field_more u (fields_from us)
 
--- What each form stands for, with what is inside already seen so. The letters are its fields, in their order.
+-- What each form stands for (`field_step` to `tail_step`), with what is inside already seen so. The letters are its
+-- fields, in their order.
 abbrev pub field_step : Field-F Field Link Tree Part Tail → Field
 field_step (Field-F.NamedUnit s w n) = unit s w n
 field_step (Field-F.Reserved w n) = reserved w n
@@ -74,7 +75,7 @@ field_view = fold-Field Field Link Tree Part Tail field_step link_step node_step
 abbrev pub link_view : CodeLink → Link
 link_view = fold-Link Field Link Tree Part Tail field_step link_step node_step part_step tail_step
 
--- those of several
+-- the trees of several Nodes
 abbrev pub nodes_view : List Node → Trees
 nodes_view ns = trees_of (map node_view ns)
 

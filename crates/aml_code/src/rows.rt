@@ -5,7 +5,7 @@ ghost use Rattle.aml_code.specs.Opcodes.{has_length, takes as row_taken};
 /// The four groups of opcodes.
 #[derive(Clone, Copy)]
 pub enum Group {
-    /// Constants, data objects, Locals and Args.
+    /// Constants, data objects, Locals, Args, Debug, Revision and Timer.
     Value,
     /// What gives a value when it runs, calls apart.
     Expression,
@@ -13,7 +13,7 @@ pub enum Group {
     Declaration,
 }
 
-/// Where an opcode may stand.
+/// Where an opcode may stand. A term of a body is one of a table whose code may run too, but for Return.
 #[derive(Clone, Copy)]
 pub enum Place {
     /// As a data object, as an argument and as a term of a body.
@@ -24,7 +24,7 @@ pub enum Place {
     Argument,
     /// As a term of a body.
     Statement,
-    /// As a term of a body, but not of a table whose code may run: Return.
+    /// As a term of a body alone.
     Return,
     /// As a term of a body; in a table, as the guard around Externals.
     If,
@@ -34,9 +34,9 @@ pub enum Place {
     Declaration,
     /// As a term of a table or of a body, also inside a guard.
     External,
-    /// As a term of a table: what opens a scope.
+    /// As a term of a table, never of a body: what opens a scope.
     Scope,
-    /// As a term of a table.
+    /// As a term of a table, never of a body.
     Method,
 }
 
@@ -70,7 +70,7 @@ pub enum TailKind {
     Bytes,
     Elements,
     Fields,
-    /// A method's body.
+    /// A method's body; in a step of a table whose code may run, the terms inside a term too (`tail_in`).
     Body,
 }
 
@@ -100,11 +100,11 @@ pub enum Role {
     Scope,
     /// It declares its second name as another name for what its first leads to.
     Alias,
-    /// It says how many arguments a name takes that is declared elsewhere.
+    /// It says how many arguments a name takes that is declared elsewhere, whatever object type it gives.
     External,
     /// It declares the named units of its field list.
     Fields,
-    /// The terms inside it count as if they stood alone.
+    /// An If. The terms inside it stand in the same scope; where the code outside methods may run, they may not run.
     Guard,
     /// Nothing.
     Other,
@@ -141,7 +141,7 @@ pub enum Position {
     ModuleTerm,
     /// In the list of terms of a guard: an If in a table whose predicate is 00.
     GuardTerm,
-    /// In a list of terms of a table whose code may run. Of the terms inside such a term only the span is kept.
+    /// In a list of terms of a table whose code may run. A step has of the terms inside it only their span.
     RunTerm,
     /// The same, right after an If.
     RunAfterIf,

@@ -101,7 +101,8 @@ abbrev pub target_by : Option Kind → List Seg → List Seg
 target_by (Some (kinds.Alias is_open q)) p = q
 target_by _ p = p
 
--- the entry of an Alias of a source, which is declared in every run only where its source has a kind in every run
+-- the entry of an Alias of a source, which is declared in every run only where its source has a kind in every run, and
+-- the path above it too
 abbrev pub alias_entry : Where → List Entry → List Seg → List Seg → Entry
 alias_entry site es source p = declares p
     (kinds.Alias (open_in (outlook_of es) source) (target_by (kind_at (namespace_of es) source) source)) None
@@ -114,20 +115,21 @@ abbrev pub Adds : Where → List Entry → Name → (List Seg → Entry) → Lis
 Adds site es n entry fs = (p : List Seg) × (placed site.scope n ≡ Some p)
     × (site.any_run ≡ false → declared_at es p ≡ None) × (fs ≡ es ++ entry p ∷ [])
 
--- the named units of a field list (20.2.5.2), each under its segment in the scope
+-- the named units of a field list (20.2.5.2), each under its segment in the scope; the region isn't looked for
 abbrev pub AddsUnits : Where → List Entry → List Name → List Entry → Type 0
 AddsUnits site es [] fs = es ≡ fs
 AddsUnits site es (n ∷ ns) fs =
     (ms : List Entry) × Adds site es n (plain_entry site es kinds.Field) ms × AddsUnits site ms ns fs
 
--- The path that a Scope opens: the one to which its name leads. Where the code outside methods may run, its own where
--- nothing at all is there.
+-- The path that a Scope opens: the one to which its name leads. Where the code outside methods may run, the path where
+-- its name is placed, if no candidate is declared, predefined or named by an External.
 abbrev pub opened : Where → List Entry → Name → Option (List Seg)
 opened site es n = option_or (leads site es n)
     (cond (site.any_run && not (is_some (found (namespace_of es) set.empty site.scope n))) (placed site.scope n) None)
 
 -- Where the terms inside an object stand, and those inside a Scope. An interpreter passes over what is inside an object
--- whose path is declared already, and inside a Scope of what is no scope.
+-- whose path is declared already, and inside a Scope of what is no scope: where the code outside methods may run, that
+-- isn't sure. Else nothing is asked of what a Scope opens, or of the path above a declaration.
 abbrev pub in_object : Where → List Entry → List Seg → Where
 in_object site es p = record site { scope = p; sure = sure_here site es p && not (is_some (declared_at es p)) }
 
@@ -135,7 +137,8 @@ abbrev pub in_scope : Where → List Entry → List Seg → Where
 in_scope site es p = record site { scope = p; sure = site.sure && (not site.any_run || scope_in (outlook_of es) p) }
 
 -- What a term does by its role at a site, from the entries in front of it to those behind it; and where the terms
--- inside it stand. What is inside an If, an Else or a While may not run.
+-- inside it stand. What is inside an If, an Else or a While is not sure, where the code outside methods may run. The
+-- object type of an External (its first byte) is not looked at.
 abbrev pub Does : Role → Where → List Entry → Parts → Tail → List Entry → Where → Type 0
 Does (roles.Declares o) site es ps r fs below = (n : Name) × (last_label None ps ≡ Some n)
     × Adds site es n (plain_entry site es (kind_of o)) fs × (placed site.scope n ≡ Some below.scope)
@@ -174,12 +177,13 @@ method_of _ = None
 abbrev pub methods_of : List Entry → List Method
 methods_of es = filter_map method_of es
 
--- ---- Terms, tables, and what they load to. In the end the last entries are there; and a name outside the methods of
--- which nothing tells how many arguments it takes has none, or is refused.
+-- ---- Terms, tables, and what they load to. `last` are the entries behind the last table, by which each name is asked
+-- again. A name that leads nowhere, and has no given count, takes no arguments inside a declaration; elsewhere it is
+-- refused, or takes none too (`unknown_zero`).
 
 module _ (unknown_zero : Bool) (last : List Entry) (code : List ℕ) where
-  -- The names in a term take as many arguments in the end as were read with them: it is lawful by these counts too. In
-  -- a declaration a name of which nothing tells it takes none.
+  -- The names in a term take as many arguments by the last entries as were read with them: it is lawful by these counts
+  -- too. In a declaration an unknown name takes none.
   abbrev pub Agrees : Position → Where → Tree → Type 0
   Agrees p site t = IsLawful
       (setting_of (agreed_arity (outlook_of last) (unknown_zero || in_declaration t) site.scope) None code)
@@ -204,13 +208,13 @@ module _ (unknown_zero : Bool) (last : List Entry) (code : List ℕ) where
     InsideDeclares site es r fs = es ≡ fs
 
   -- How many arguments names take in a term of a table whose code may run: as many as every run agrees on by the
-  -- entries in front of it, with what the user gives, and none where nothing tells it.
+  -- entries in front of it, with what the user gives, and none where a name is unknown, or its counts differ.
   abbrev pub counts_at : Where → List Entry → Arities
   counts_at site es locals n = Some (unwrap_or (agreed_arity (outlook_of es) false site.scope locals n) 0)
 
   abbrev mutual
-    -- Such a table is read from the left: the terms from an offset on to the end of a span, with at most so many
-    -- levels, at a site, from entries to entries. For each a step stands there, with the counts in front of it.
+    -- A table whose code may run is read from the left: the terms from an offset on to the end of a span, with at most
+    -- so many levels, at a site, from entries to entries. For each a step stands there, with the counts in front of it.
     pub TermsRead : ℕ → Position → ℕ → ℕ → Where → List Entry → Trees → List Entry → Type 0
     TermsRead levels p at end site es no_trees fs = (at ≡ end) × (es ≡ fs)
     TermsRead levels p at end site es (tree_more t ts) fs =
@@ -242,7 +246,7 @@ TablesLoad any_run z last t es (c ∷ cs) (ts ∷ rest) fs =
 TablesLoad any_run z last t es _ _ fs = ⊥
 
 -- The tables' AML reads as these trees, and these load to these entries, behind the counts that the user gives to
--- paths. A set has at most so many methods.
+-- paths. A set has at most 1,048,576 methods.
 pub record LoadsTo (any_run unknown_zero : Bool) (gs : List (List Seg × ℕ)) (tables : List (List ℕ))
     (trees : List Trees) (es : List Entry) : Type 0 where
   pub read : TablesLoad any_run unknown_zero es 0 (map (λ g. given g.0 g.1) gs) tables trees es

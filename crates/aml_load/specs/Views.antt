@@ -1,4 +1,4 @@
--- What a loaded set is the load of, and what the bodies of its methods read as.
+-- What a loaded set is the load of.
 use Rattle.std.specs.Prelude.{◌≡◌, ℕ, List, [], slice_index_or, Some, ◌≢◌, Bool, ◌⊎◌}
 use Rattle.std.specs.Prelude.{Result, Ok, Err}
 use Rattle.aml_code.specs.Tree.{Trees, slice_of}
@@ -34,7 +34,8 @@ pub record HoldsTables (x : TableSet) (codes : List (List ℕ)) (ts : List Trees
 
 -- ---- The bodies of methods, each read in the namespace of all entries (ACPI 6.5, 5.3 and 20.2.5).
 
--- the body of a method, a span of its table, reads as these terms
+-- The body of a method, a span of its table, reads as these terms. Where the code outside methods may not run, the
+-- count of a name is that of `arity_of (namespace_of es)` (proved: `loads_strictly`).
 abbrev pub IsBody : Bool → List Entry → List (List ℕ) → Method → Trees → Type 0
 IsBody unknown_zero es tables m ts = ReadsBody (agreed_arity (outlook_of es) unknown_zero m.path) m.path
     (slice_of (slice_index_or tables m.table []) m.start m.len) ts

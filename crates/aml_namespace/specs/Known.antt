@@ -53,8 +53,8 @@ coded_kind = code_by (ℕ × (ℕ × List Seg)) (coded× coded_ℕ (coded× code
 
 -- ---- What the declarations of a path say.
 
--- The kind of the first; those of the others, in order, up to and with the first sure one; whether a sure one is among
--- all of them; and how many they are.
+-- The kind of the first; where the first isn't sure, those of the others, in order, up to and with the first sure one;
+-- whether a sure one is among all of them; and how many they are.
 pub record Declared : Type 0 where
   pub kind : Kind
   pub others : List Kind
@@ -150,7 +150,7 @@ pub record StandsFor (k : Known) (es : List Entry) : Type 0 where
   pub same_outs : (q : List Seg) → map.get k.outs q ≡ outs_at es q
   pub same_givens : (q : List Seg) → map.get k.givens q ≡ given_at es q
 
--- the root has a number
+-- nothing; of the paths the root alone has a number
 abbrev pub nothing_known : Known
 nothing_known = record { declarations = map.empty; outs = map.empty; givens = map.empty; scopes = []; paths = [] ∷ [] }
 

@@ -22,7 +22,7 @@ pub record Body : Type 0 where
 
 -- A declaration of a path with its kind, a method's with its body, and whether it is sure: whether it stands whatever a
 -- run of the code outside methods does. Or an External, which names a path and says how many arguments it takes
--- (ACPI 6.5, 20.2.5.2); or a count that the user gives to a path of which no table may say it.
+-- (ACPI 6.5, 20.2.5.2); or a count that the user gives to a path, which declares nothing.
 pub data Entry : Type 0 where
   declares : List Seg → Kind → Option Body → Bool → Entry
   external : List Seg → ℕ → Entry
@@ -79,11 +79,13 @@ abbrev pub first_of : Namespace → PathSet → List (List Seg) → Option (List
 first_of n locals paths = option_or
     (find (λ p. set.contains locals p || is_some (kind_at n p)) paths) (find (λ p. is_some (n.outs p)) paths)
 
--- the path that a name means in a scope
+-- The path that a name means in a scope. A path is its segments alone: no Alias in it is followed, and a Scope of an
+-- Alias opens the Alias's own path.
 abbrev pub found : Namespace → PathSet → List Seg → Name → Option (List Seg)
 found n locals scope name = first_of n locals (candidates scope name)
 
--- the count of what stands at the target of an Alias: of a method, 0 for another kind, else that of its Externals
+-- the count of what stands at the target of an Alias: a method's; 0 for another kind, an Alias too; without a kind that
+-- of its Externals, or 0
 abbrev pub target_count : Option Kind → Option ℕ → ℕ
 target_count None out = unwrap_or out 0
 target_count (Some (Method args)) out = args
@@ -102,14 +104,15 @@ abbrev pub first_given : Namespace → List (List Seg) → Option ℕ
 first_given n [] = None
 first_given n (p ∷ paths) = option_or (n.givens p) (first_given n paths)
 
--- The count of a name that may mean some paths, and leads to one or nowhere: without one the given count, else 0 if
--- unknown names count so; none of one of the locals; else by the path's kind and its Externals.
+-- The count of a name that may mean some paths, and leads to one or nowhere. Where it leads nowhere: the given count,
+-- else 0 if unknown names count so, else none is known. Where it leads to one of the locals: 0. Else by the path's kind
+-- and its Externals.
 abbrev pub arity_at : Namespace → Bool → PathSet → List (List Seg) → Option (List Seg) → Option ℕ
 arity_at n unknown_zero locals paths None = option_or (first_given n paths) (cond unknown_zero (Some 0) None)
 arity_at n unknown_zero locals paths (Some p) =
     cond (set.contains locals p) (Some 0) (count_of_kind n (kind_at n p) (n.outs p))
 
--- how many arguments a name takes in a method's body, by the path that it means
+-- how many arguments a name takes in a scope (`method`, a method's path or another), by the path that it means
 abbrev pub arity_of : Namespace → Bool → List Seg → PathSet → Name → Option ℕ
 arity_of n unknown_zero method locals name =
     arity_at n unknown_zero locals (candidates method name) (found n locals method name)

@@ -105,8 +105,8 @@ counts_by o _ = 0 ∷ []
 abbrev pub counts_of : Outlook → List Seg → List ℕ
 counts_of o p = flat_map (counts_by o) (o.kinds p)
 
--- the counts of all that a name may mean: of these paths up to and with the first that is one of the locals, where the
--- count is 0, or is sure
+-- the counts of all that is declared or predefined at these paths, up to and with the first that is one of the locals,
+-- where the count is 0, or is sure; what only an External names isn't counted beside these
 abbrev pub counts_met : Outlook → PathSet → List (List Seg) → List ℕ
 counts_met o locals [] = []
 counts_met o locals (p ∷ paths) = cond (set.contains locals p) (0 ∷ [])
@@ -126,7 +126,7 @@ abbrev pub arity_met : List ℕ → Option ℕ → Option ℕ → Option ℕ
 arity_met [] differ unmet = unmet
 arity_met (n ∷ ns) differ unmet = option_or (common (n ∷ ns)) differ
 
--- How many arguments a name takes whatever runs: by its kinds where all that may be meant agree; where they differ as
+-- How many arguments a name takes whatever runs: by the kinds that may be meant, where all agree; where they differ as
 -- the user gives it; and where nothing with a kind can be meant as it is without code outside methods.
 abbrev pub agreed_arity : Outlook → Bool → List Seg → PathSet → Name → Option ℕ
 agreed_arity o unknown_zero scope locals name = arity_met (counts_met o locals (candidates scope name))
@@ -138,12 +138,14 @@ agreed_arity o unknown_zero scope locals name = arity_met (counts_met o locals (
 abbrev pub is_known : Namespace → List Seg → Bool
 is_known n p = is_some (kind_at n p) || is_outside n p
 
--- the first of these paths that may have a kind, unless it isn't sure and a later one is known
+-- The first of these paths that may have a kind. None: there is no such path. Some None: runs differ, as it isn't sure,
+-- and a later one may have a kind, or an External names it. Some (Some p): no run leads elsewhere than to p.
 abbrev pub first_agreed : Outlook → List (List Seg) → Option (Option (List Seg))
 first_agreed o [] = None
 first_agreed o (p ∷ paths) = cond (is_some (kind_at o.first p))
     (Some (cond (o.sure p || not (is_some (find (is_known o.first) paths))) (Some p) None)) (first_agreed o paths)
 
+-- what these give, or, where none may have a kind, a second choice
 abbrev pub agreed_or : Option (Option (List Seg)) → Option (List Seg) → Option (List Seg)
 agreed_or None outside = outside
 agreed_or (Some path) outside = path

@@ -1,6 +1,6 @@
 -- A table whose code may run, read from the left (ACPI 6.5, 5.3 and 20.2.5): how many arguments a name takes in a term
 -- is said by what stands in front of the term, whatever that is; and the terms inside a term stand behind what it
--- declares itself. What is said here holds of any namespace.
+-- declares itself.
 use Rattle.std.specs.Prelude.{◌≡◌, ℕ, ◌+◌, ◌-◌, Bool, true, false, List, length, Option, Some, option_map, unwrap_or}
 use Rattle.std.specs.Prelude.{Result, Ok, Err, zero, suc, nat_le, if◌then◌else◌, get_or, ◌<◌}
 use Rattle.std.specs.Result.{MatchResult}

@@ -1,5 +1,5 @@
--- The methods of a set of tables (ACPI 6.5, 19.6.85), and those that the program keeps (`Kept`), by the numbers of their
--- paths.
+-- The methods of a set of tables (ACPI 6.5, 19.6.85): by their paths, and as the program keeps them, by the numbers of
+-- these.
 use Rattle.std.specs.Prelude.{ℕ, ◌<◌, List, [], length, map, slice_index_or}
 use Rattle.std.specs.List.{AllByRecursion}
 use Rattle.aml_names.specs.declared.segments.Seg.{Seg}

@@ -51,7 +51,8 @@ abbrev pub is_value : Group → Bool
 is_value groups.Value = true
 is_value _ = false
 
--- a constant: its value stands alone, without a mnemonic
+-- a value that its part spells, which stands alone: of Byte, Word, Dword, Qword and Text. Zero, One and Ones have their
+-- mnemonics
 abbrev pub is_constant : Row → Bool
 is_constant r = is_value r.group && (not (has_length r.tail) && not (length r.parts == 0))
 
@@ -144,7 +145,7 @@ field_lines level (field_more u us) = line level (field_text u) ++ field_lines l
 
 -- ---- methods
 
--- what became of a method's body: its terms, or its bytes as they are
+-- what became of a method's body: its terms, or that it reads as none; its bytes are those of its span (`span_of`)
 pub data OneBody : Type 0 where
   read : Trees → OneBody
   raw : OneBody
@@ -208,7 +209,7 @@ abbrev pub levels_of : List Trees → List ℕ
 levels_of [] = []
 levels_of (ts ∷ others) = all_levels 1 ts ++ levels_of others
 
--- the bodies that are left where those at these levels have taken theirs
+-- the bodies that are left when one is taken for each of these levels
 abbrev pub behind : List ℕ → List BodyLines → List BodyLines
 behind levels bs = drop (length levels) bs
 
@@ -252,7 +253,8 @@ body_lines raw level bs = line level (raw_text bs)
 abbrev pub left_all : Trees → List BodyLines → List BodyLines
 left_all ts bs = behind (all_levels 1 ts) bs
 
--- a definition block, by its table's file name: DefinitionBlock ("dsdt.dat") { .. }
+-- a definition block: DefinitionBlock ("dsdt.dat") { .. }, with its table's file name in place of the six arguments
+-- that the standard has (ACPI 6.5, 19.6)
 abbrev pub block_text : List ℕ → List ℕ → Trees → List BodyLines → List ℕ
 block_text name code ts bs =
     block 0 (word "DefinitionBlock (" ++ quoted name ++ word ")") (terms_lines code (Some bs) 1 ts)

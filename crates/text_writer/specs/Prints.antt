@@ -1,4 +1,4 @@
--- A fixed word of the text. It stays closed, so that a text reads in a goal as it stands in its definition.
+-- The bytes of a text: its words, its numbers, and what it quotes.
 use Prim.Native.String.{String}
 use Rattle.std.specs.Prelude.{ℕ, List, codes, Bool, ◌/◌, ◌%◌, [], ◌∷◌, ◌++◌, flat_map, slice_index, nat_eq, nat_le}
 use Rattle.std.specs.Prelude.{◌&&◌, not, if◌then◌else◌, take, ◌≡◌, ◌+◌, ◌-◌, ◌^◌, ◌<◌, min, true, false, length, Option}
@@ -7,7 +7,7 @@ use Rattle.std.specs.Io.KnownBytes.{Appends}
 use Rattle.text_writer.specs.declared.output.Out.{Out}
 use Rattle.text_writer.specs.declared.output.WriteFault.{WriteFault}
 
--- the bytes of this word
+-- the bytes of this word; closed, so that a proof reads a text as it stands in its definition
 unfoldable pub word : String → List ℕ
 word s = codes s
 
@@ -39,7 +39,7 @@ is_plain b = nat_le 32 b && nat_le b 126 && not (nat_eq b 34) && not (nat_eq b 9
 unfoldable pub quoted_byte : ℕ → List ℕ
 quoted_byte b = if is_plain b then b ∷ [] else word "\\x" ++ hex2 b
 
--- the bytes between quotes
+-- the bytes between quotes; one that isn't printable ASCII, a quote or a backslash is `\xNN`
 unfoldable pub quoted : List ℕ → List ℕ
 quoted bs = word "\"" ++ flat_map quoted_byte bs ++ word "\""
 
