@@ -7,9 +7,9 @@ The page has the definitions that `Means` and `Shows` of crates/acpidis/specs/Me
 the specs, each before what it is made of, and each type of the sources behind the definition that names it first.
 Definitions that share a comment stay together, in the order of their file. One that goes form by form through a type that
 holds itself (`node_step` of `Node-F`) is a table, which has the forms of the type too. What only --any-run adds stands
-apart, cut off at the names of ADDED, and so does what PRINTED names. The head of the page is tests/meaning_words.md: each
-word of the kit's library that the definitions name has to stand in its last table, and no other. Without --write the
-page is compared with docs/meaning.md. The last line is 'N passed, N failed'.
+apart, cut off at the names of ADDED, and so does what PRINTED names. The head of the page is tests/meaning_words.md: its
+last table has just those words of the kit's library that definitions name, its other words stand on the page, and what
+it quotes in the sources. Without --write docs/meaning.md is compared with it. The last line is 'N passed, N failed'.
 """
 
 import itertools
@@ -266,11 +266,12 @@ class Page:
         self.lines += [f"## {title}", ""]
         if title == ADDED[0]:
             self.lines += ["Cut off at " + ", ".join(f"`{name}`" for it in roots for name in it.names) + ": what is met through these alone.", ""]
-        order = topmost_first(list(sections), lambda it: [u.section for d in sections[it] for u in d.uses if u in inside])
-        for file, some in itertools.groupby(order, lambda it: it[0]):
+        above = lambda it: [u.section for d in sections[it] for u in d.uses if u in inside]
+        for file, some in itertools.groupby(topmost_first(list(sections), above), lambda it: it[0]):
             some = list(some)
             renamed = dict.fromkeys(words for it in some for d in sections[it] for words in d.renamed)
-            self.lines += [f"### `{file.name}` of `{file.crate}`", "", *([f"Here {', '.join(renamed)}.", ""] if renamed else [])]
+            self.lines += [f"### `{file.name}` of `{file.crate}`", ""]
+            self.lines += [f"Here {', '.join(renamed)}.", ""] if renamed else []
             for section in some:
                 self.section(section[1], sections[section])
         self.parts.append((title, self.known[-len(definitions) :], [it for it in self.shown[shown:] if not it.seen and not it.stepped]))
@@ -297,7 +298,7 @@ class Page:
             if types:
                 self.block("antt", block)
                 self.block("rust", [line for it in types if not it.seen and not it.stepped for line in [*it.lines, ""]])
-                seen = [f"{'an' if it.name[0] in 'AEIOU' else 'a'} `{it.name}` as `{it.seen}`" for it in types if it.seen]
+                seen = [f"a{'n' * (it.name[0] in 'AEIOU')} `{it.name}` as `{it.seen}`" for it in types if it.seen]
                 self.lines += [f"Definitions see {', '.join(seen)}.", ""] if seen else []
                 block = []
         self.block("antt", block)
@@ -337,7 +338,7 @@ class Page:
             "## How much it is",
             "",
             f"The definitions stand in {files} files. {comments} lines of comments in them, and the texts of the types, aren't counted. "
-            f"A minute has {LINES_A_MINUTE} lines, or {ROWS_A_MINUTE} rows of tables.",
+            f"The minutes are for a reader of {LINES_A_MINUTE} lines a minute, or of {ROWS_A_MINUTE} rows of tables.",
             "",
             "| Part | Names | Lines of definitions | Rows of tables | Lines of types | Minutes |",
             "|---|---|---|---|---|---|",
@@ -368,11 +369,12 @@ def words_of_head(head):
     return {word for cell in cells for word in re.findall(r"`([^` ]+)[^`]*`", cell.replace("\\|", "|"))}
 
 
-def unused_in(head, lines):
-    """The words of the head's list and of its first table that no line behind it has."""
-    text, cells = "\n".join(lines), re.findall(r"^\| (`.*?`) \|", head.split("\n## ")[-2], re.MULTILINE)
-    signs = [sign for cell in cells for sign in re.findall(r"[\w\-]{2,}|[^\w\s(){}.,:=`]", cell) if sign not in text]
-    return signs + [word for word in re.findall(r"\*\*(.*?)\*\*", head) if not re.search(rf"(?i)\b{word[:-1]}\w?s?\b", text)]
+def unused_in(head, text):
+    """The words of the head's list and of its first table that the page behind it doesn't have."""
+    cells = re.findall(r"^\| (`.*?`) \|", head.split("\n## ")[-2], re.MULTILINE)
+    signs = {sign for cell in cells for sign in re.findall(r"[\w\-]{2,}|[^\w\s(){}.,:=`]", cell) if sign not in text}
+    words = [word for word in re.findall(r"\*\*(.*?)\*\*", head) if not re.search(rf"(?i)\b{word.rstrip('s')}s?\b", text)]
+    return sorted(signs) + words
 
 
 def main():
@@ -389,8 +391,11 @@ def main():
     checks.is_so(f"PARTS, ADDED, PRINTED: no specs have {lost}", not lost)
     checks.is_so(f"these stand behind what they are made of: {late}", not late)
     checks.is_so(f"tests/meaning_words.md and the definitions: {strange}", not strange)
-    unused = unused_in(head, page.lines)
+    quoted = re.findall(r"\(`(crates/[^`]*)`\):\n\n```[a-z]+\n(.*?)^```$", head, re.MULTILINE | re.DOTALL)
+    unused = unused_in(head, "\n".join(page.lines))
     checks.is_so(f"tests/meaning_words.md has what the page never uses: {unused}", not unused)
+    for source, block in quoted or [("tests/meaning_words.md", "a quotation of a source")]:
+        checks.is_so(f"tests/meaning_words.md: {source} has not\n{block}", block in (TOP / source).read_text())
     checks.is_so(f"docs/meaning.md is made anew by --write; it differs in line {other}", there == text)
     checks.end()
 

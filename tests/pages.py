@@ -104,20 +104,13 @@ def check_commands(checks, page, is_installed):
             checks.is_so(f"{page}: {command}\nprinted\n{printed}not\n{wanted}", printed == wanted)
 
 
-def check_quotes(checks, page, least):
-    """That each block which a page quotes from a source stands there."""
-    text = (TOP / page).read_text()
+def check_readme(checks):
+    """README's length, and that each block which it quotes from a source stands there."""
+    text = (TOP / README).read_text()
     quoted = re.findall(r"\(`(crates/[^`]*)`\):\n\n```[a-z]+\n(.*?)^```$", text, re.MULTILINE | re.DOTALL)
     for source, block in quoted:
-        checks.is_so(f"{page}: {source} has not\n{block}", block in (TOP / source).read_text())
-    checks.is_so(f"{page}: it quotes {len(quoted)} sources", len(quoted) >= least)
-
-
-def check_readme(checks):
-    """README's length, and what it and docs/meaning.md quote from sources."""
-    check_quotes(checks, README, 3)
-    check_quotes(checks, MEANING, 2)
-    text = (TOP / README).read_text()
+        checks.is_so(f"{README}: {source} has not\n{block}", block in (TOP / source).read_text())
+    checks.is_so(f"{README}: it quotes {len(quoted)} sources", len(quoted) >= 3)
     checks.is_so(f"{README}: {len(text.split())} words", len(text.split()) <= MOST_WORDS)
 
 

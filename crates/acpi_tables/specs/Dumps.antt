@@ -53,7 +53,7 @@ sums_hold Root bytes = root_sums bytes
 sums_hold Facs bytes = true
 sums_hold (Standard content) bytes = nat_eq (checksum (table_of bytes)) 0
 
--- What is read of it can be read: of a FADT the fields up to Flags.
+-- What is read of it can be read: of a FADT the fields up to Flags, which are those of ACPI 1.0.
 abbrev pub HoldsContent : Kind → List ℕ → Type 0
 HoldsContent (Standard Xsdt) bytes = HoldsAddresses 8 (table_of bytes)
 HoldsContent (Standard Rsdt) bytes = HoldsAddresses 4 (table_of bytes)

@@ -64,7 +64,7 @@ text_of dumps k = listing_text dumps (k.dsdt ∷ k.ssdts) (rows_of k.entries) (c
 abbrev pub order_of : Meaning → List ℕ
 order_of k = k.dsdt ∷ k.ssdts
 
--- whether a name outside the methods that leads nowhere, and has no given count, takes none outside declarations too
+-- whether a name outside the methods whose count nothing tells takes none
 abbrev pub none_unknown : Options → Bool
 none_unknown options = options.any_run && options.unknown_zero
 

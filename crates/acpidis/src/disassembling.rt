@@ -78,7 +78,7 @@ fn refused_load(order: &Order, fault: LoadFault) -> Refusal
     }
 }
 
-/// Whether a name outside the methods that leads nowhere, and has no given count, takes none outside declarations too.
+/// Whether a name outside the methods whose count nothing tells takes none.
 fn none_unknown(options: &Options) -> bool
     ensures { result ≡ none_unknown options.now }
 {

@@ -31,8 +31,8 @@ blocks_of names codes terms = map_list a_block (zip names (zip codes terms))
 abbrev pub whole_text : List Dump → List (List Seg × Declared) → List OneBlock → List BodyLines → List ℕ
 whole_text dumps rows blocks bodies = dumps_text dumps ++ namespace_text rows ++ blocks_text blocks bodies
 
--- The text of dumps whose definition blocks are loaded in this order, by the rows of their namespace, the tables' AML and
--- terms, and the bodies of their methods.
+-- The text of dumps whose definition blocks are loaded in this order, by the rows of their namespace, the tables' AML
+-- and terms, and the bodies of their methods.
 abbrev pub listing_text : List Dump → List ℕ → List (List Seg × Declared) → List (List ℕ) → List Trees → List OneBody
     → List ℕ
 listing_text dumps order rows codes terms bodies =
