@@ -2,16 +2,15 @@
 //! is copied when the scope is opened.
 
 use crate::roles::role_of;
-use aml_code::{Node, Part, Role, Tail};
+use aml_code::{Node, Role, Tail};
 use aml_names::ScopedPath;
 use aml_space::is_long;
 
 /// How many segments a name has at most (ACPI 6.5, 20.2.2).
 const MOST_SEGMENTS: usize = 255;
 
-/// How many paths are kept in the scope of these terms and in those right inside it, at most: of methods, of what an
-/// Alias names, of the scopes of names that are looked at when all tables are there. They aren't counted where the
-/// scope's path isn't long, which is copied anyway.
+/// How many paths are kept in the scope of these terms and in those right inside it, at most: what their Aliases name.
+/// They aren't counted where the scope's path isn't long, which is copied anyway.
 pub fn most_kept(path: &ScopedPath, terms: &[Node]) -> usize {
     let mut most: usize = 0;
     if !is_long(path) {
@@ -25,22 +24,22 @@ pub fn most_kept(path: &ScopedPath, terms: &[Node]) -> usize {
 
 /// Those of a term, and of the terms right inside it.
 fn most_kept_by(term: &Node) -> usize {
-    let mut most = usize::from(keeps_its_scope(term));
+    let mut most = usize::from(is_alias(term));
     if let Node::Op {
         tail: Tail::Terms(terms),
         ..
     } = term
     {
         for inner in terms {
-            most = most.saturating_add(usize::from(keeps_its_scope(inner)));
+            most = most.saturating_add(usize::from(is_alias(inner)));
         }
     }
     most
 }
 
-/// Those in the terms of a tail, also where these aren't read yet: no path is kept of fewer than seven bytes, as a
-/// method's is. That is far too many where most of the bytes are in a scope further inside, so a scope with no more
-/// segments of its own than a name has is taken to keep none.
+/// Those in the terms of a tail, also where these aren't read yet: no Alias takes fewer than seven bytes. That is far too
+/// many where most of the bytes are in a scope further inside, so a scope with no more segments of its own than a name
+/// has is taken to keep none.
 pub fn most_kept_in(path: &ScopedPath, tail: &Tail) -> usize {
     let (_, own) = path.parts().slices();
     match tail {
@@ -50,43 +49,9 @@ pub fn most_kept_in(path: &ScopedPath, tail: &Tail) -> usize {
     }
 }
 
-/// Whether something may be kept of a term itself.
-fn keeps_its_scope(term: &Node) -> bool {
+fn is_alias(term: &Node) -> bool {
     match term {
-        Node::Nothing => false,
-        Node::Named { .. } => true,
-        Node::Op { opcode, parts, .. } => match role_of(*opcode) {
-            Role::Method | Role::Alias => true,
-            _ => may_name(parts.as_slice()),
-        },
-    }
-}
-
-/// Whether a name may stand in one of these parts: in what isn't a number or a text.
-fn may_name(parts: &[Part]) -> bool {
-    for part in parts {
-        match part {
-            Part::Child(Node::Named { .. }) => return true,
-            Part::Child(Node::Op { parts, tail, .. }) => {
-                if has_children(parts.as_slice(), tail) {
-                    return true;
-                }
-            }
-            _ => {}
-        }
-    }
-    false
-}
-
-/// Whether terms stand in a term with these parts and this tail.
-fn has_children(parts: &[Part], tail: &Tail) -> bool {
-    for part in parts {
-        if let Part::Child(_) = part {
-            return true;
-        }
-    }
-    match tail {
-        Tail::Elements(_) => true,
+        Node::Op { opcode, .. } => matches!(role_of(*opcode), Role::Alias),
         _ => false,
     }
 }

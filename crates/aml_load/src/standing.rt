@@ -18,7 +18,6 @@ ghost use Rattle.aml_load.specs.Walking.{at_site, Holds, IsInside, Stays};
 ghost use Rattle.aml_space.specs.Near.{IsBelow};
 
 use crate::faults::LoadFault;
-use crate::keeping::most_kept_in;
 use crate::loading::first_progress;
 use crate::roles::{kind_of, role_of};
 use crate::runner::RunSite;
@@ -136,6 +135,14 @@ fn find_by_role<'a>(
     }
 }
 
+/// How many terms stand right inside a term, each of which keeps its scope.
+fn terms_in(tail: &Tail) -> usize {
+    match tail {
+        Tail::Terms(terms) => terms.len(),
+        _ => 0,
+    }
+}
+
 /// Finds the terms inside a term, whose scope is this path.
 #[cycle(find)]
 fn find_below<'a>(
@@ -153,7 +160,7 @@ fn find_below<'a>(
     ensures stays { OnOk result (Stays progress.old progress.new) }
 {
     let place = progress.space.open_scopes();
-    let scope = progress.open_scope(site, path, most_kept_in(&path.path, tail))?;
+    let scope = progress.open_scope(site, path, terms_in(tail))?;
     find_inside(
         progress,
         &Site {

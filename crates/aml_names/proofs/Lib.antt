@@ -6,4 +6,4 @@ mod SegmentOrder
 pub mod NameLaws
 pub mod EndLaws
 mod BranchLaws
-pub mod PartLaws
+pub mod Fronts

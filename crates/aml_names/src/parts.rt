@@ -1,12 +1,9 @@
 //! Paths in two parts.
-ghost use Rattle.std.specs.Prelude.{◌≡◌, ◌<◌, ◌≤◌, ◌++◌, ◌-◌, ℕ, [], length, take, drop, get_or, slice_get, IfOk};
-ghost use Rattle.std.specs.Ordering.{eq_by_cmp};
-ghost use Rattle.aml_names.specs.Paths.{path_cmp};
+ghost use Rattle.std.specs.Prelude.{◌≡◌, ◌<◌, ◌≤◌, ◌++◌, ◌-◌, [], length, take, drop, get_or, slice_get, IfOk};
 
 use crate::faults::NoMemory;
-use crate::paths::{Path, common};
+use crate::paths::Path;
 use crate::segments::Seg;
-use crate::shared::SharedPath;
 use std::alloc::Global;
 use std::marker::Model;
 
@@ -15,12 +12,10 @@ use std::marker::Model;
 pub struct Parts<'a> {
     front: &'a [Seg],
     own: &'a [Seg],
-    /// The scope whose front it is, where it has several owners.
-    scope: Option<&'a SharedPath>,
 }
 
 impl<'a> Model for Parts<'a> {
-    ghost use Rattle.std.specs.Prelude.{List, ◌≡◌, ◌≤◌, ◌++◌, length, take, IfSome};
+    ghost use Rattle.std.specs.Prelude.{List, ◌++◌};
     ghost use Rattle.aml_names.specs.declared.segments.Seg.{Seg};
     ghost use Rattle.aml_names.specs.Paths.{coded_path};
 
@@ -29,9 +24,6 @@ impl<'a> Model for Parts<'a> {
     ghost coded = { coded_path };
 
     ghost view = { λ s. s.front.now ++ s.own.now };
-
-    ghost invariant = { λ s. IfSome s.scope (λ scope. (length s.front.now ≤ length scope.now)
-        × (s.front.now ≡ take (length s.front.now) scope.now)) };
 }
 
 impl<'a> Parts<'a> {
@@ -39,23 +31,7 @@ impl<'a> Parts<'a> {
     pub fn new(front: &'a [Seg], own: &'a [Seg]) -> Parts<'a>
         ensures { result ≡ front.now ++ own.now }
     {
-        Parts {
-            front,
-            own,
-            scope: None,
-        }
-    }
-
-    /// The path of some segments behind a front of a scope, which is shared where the path is kept.
-    pub fn of(scope: &'a SharedPath, front: usize, own: &'a [Seg]) -> Parts<'a>
-        requires { front ≤ length scope.now }
-        ensures { result ≡ take front scope.now ++ own.now }
-    {
-        Parts {
-            front: &scope.path().segs()[..front],
-            own,
-            scope: Some(scope),
-        }
+        Parts { front, own }
     }
 
     /// The path of these segments.
@@ -72,7 +48,6 @@ impl<'a> Parts<'a> {
         Parts {
             front: self.front,
             own: self.own,
-            scope: self.scope,
         }
     }
 
@@ -136,13 +111,11 @@ impl<'a> Parts<'a> {
             Parts {
                 front: &self.front[..count],
                 own: &[],
-                scope: self.scope,
             }
         } else {
             Parts {
                 front: self.front,
                 own: &self.own[..count - self.front.len()],
-                scope: self.scope,
             }
         }
     }
@@ -159,21 +132,6 @@ impl<'a> Parts<'a> {
         }
     }
 
-    /// The mark of the scope whose front it is, or 0. No clause speaks of it.
-    pub fn mark(&self) -> usize {
-        match self.scope {
-            None => 0,
-            Some(scope) => scope.mark(),
-        }
-    }
-
-    /// Whether it is another path.
-    pub fn is(&self, other: &Parts<'_>) -> bool
-        ensures { result ≡ eq_by_cmp path_cmp self.now other.now }
-    {
-        self.len() == other.len() && self.common(other) == self.len()
-    }
-
     /// The path of some segments below it.
     pub fn below(&self, alloc: Global, tail: &[Seg]) -> Result<Path, NoMemory>
         ensures { IfOk result (λ path. path ≡ self.now ++ tail.now) }
@@ -181,38 +139,5 @@ impl<'a> Parts<'a> {
         let mut path = Path::below(alloc, self.front, self.own)?;
         path.extend(tail)?;
         Ok(path)
-    }
-
-    /// How many first segments it has in common with another path.
-    pub fn common(&self, other: &Parts<'_>) -> usize
-        ensures own { result ≤ length self.now }
-        ensures others { result ≤ length other.now }
-        ensures same { take result self.now ≡ take result other.now }
-        ensures most { (n : ℕ) → n ≤ length self.now → n ≤ length other.now →
-            take n self.now ≡ take n other.now → n ≤ result }
-    {
-        let known = common(self.front, other.front);
-        if known == self.front.len() {
-            return known + Parts::new(&other.front[known..], other.own).common_with(self.own);
-        }
-        if known == other.front.len() {
-            return known + Parts::new(&self.front[known..], self.own).common_with(other.own);
-        }
-        known
-    }
-
-    /// How many first segments it has in common with others.
-    fn common_with(&self, others: &[Seg]) -> usize
-        ensures own { result ≤ length self.now }
-        ensures others { result ≤ length others.now }
-        ensures same { take result self.now ≡ take result others.now }
-        ensures most { (n : ℕ) → n ≤ length self.now → n ≤ length others.now →
-            take n self.now ≡ take n others.now → n ≤ result }
-    {
-        let known = common(self.front, others);
-        if known < self.front.len() {
-            return known;
-        }
-        known + common(self.own, &others[known..])
     }
 }

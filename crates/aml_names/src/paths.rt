@@ -165,7 +165,7 @@ fn matches(some: &[Seg], others: &[Seg], count: usize) -> u32
 
 /// How many first segments two paths have in common. They are compared by blocks, each as a whole, which is several
 /// times as fast as one segment after the other.
-pub fn common(some: &[Seg], others: &[Seg]) -> usize
+fn common(some: &[Seg], others: &[Seg]) -> usize
     ensures some { result ≤ length some.now }
     ensures others { result ≤ length others.now }
     ensures same { take result some.now ≡ take result others.now }
@@ -186,7 +186,7 @@ pub fn common(some: &[Seg], others: &[Seg]) -> usize
 }
 
 /// Whether two paths are the same.
-pub fn same_segs(a: &[Seg], b: &[Seg]) -> bool
+pub(crate) fn same_segs(a: &[Seg], b: &[Seg]) -> bool
     ensures { result ≡ eq_by_cmp path_cmp a.now b.now }
 {
     a.len() == b.len() && common(a, b) == a.len()

@@ -330,7 +330,7 @@ pub(crate) fn keep_scope(
     ensures { IfOk result (λ scope. scope ≡ path.now) }
 {
     if copied {
-        Ok(ScopedPath::of(alloc, path.to_scope(alloc)?))
+        ScopedPath::whole(alloc, path.to_path(alloc)?)
     } else {
         path.clone()
     }

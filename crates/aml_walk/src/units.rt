@@ -28,7 +28,7 @@ fn is_unit(
     ensures { IfOk result (λ same. same ≡ is_unit scope.now path.now unit) }
 {
     let own = ScopedPath::below(alloc, scope, &[unit.segment])?;
-    Ok(own.parts().is(&path.parts()))
+    Ok(own.to_path(alloc)? == *path)
 }
 
 /// The first of these units that has this path.

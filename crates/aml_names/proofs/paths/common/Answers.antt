@@ -6,7 +6,7 @@ use Rattle.std.specs.Cmp.{tied_itself}
 use Rattle.std.proofs.lemmas.Map.Views.{tells_apart}
 use Rattle.aml_names.specs.declared.segments.Seg.{Seg}
 use Rattle.aml_names.specs.Paths.{seg_cmp, exact_segs, segs_total}
-use Rattle.aml_names.proofs.PartLaws.{take_on}
+use Rattle.aml_names.proofs.Fronts.{take_on}
 use Rattle.aml_names.proofs.paths.common.Goals as goal
 
 pub loop-known-preserved : goal.loop-known-preserved

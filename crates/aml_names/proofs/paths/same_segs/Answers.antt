@@ -1,4 +1,4 @@
-use Rattle.aml_names.proofs.PartLaws.{apart_by, same_by}
+use Rattle.aml_names.proofs.Fronts.{apart_by, same_by}
 use Rattle.aml_names.proofs.paths.same_segs.Goals as goal
 
 pub returns-else-a-b : goal.returns-else-a-b
