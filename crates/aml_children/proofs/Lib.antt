@@ -1,4 +1,5 @@
 pub mod Sides
+mod Rows
 mod Forks
 pub mod Basics
 pub mod Walks

@@ -17,7 +17,7 @@ before_front : (s : Seg) (l m : List Child) → IsBefore s (l ++ m) → IsBefore
 before_front s [] m before = tt
 before_front s (c ∷ l) m before = (before.0, before_front s l m before.1)
 
-before_middle : (s : Seg) (l : List Child) (k : Child) (r : List Child) → IsBefore s (l ++ k ∷ r)
+pub before_middle : (s : Seg) (l : List Child) (k : Child) (r : List Child) → IsBefore s (l ++ k ∷ r)
     → seg_cmp s k.seg ≡ Less
 before_middle s [] k r before = before.0
 before_middle s (c ∷ l) k r before = before_middle s l k r before.1

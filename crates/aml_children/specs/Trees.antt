@@ -3,7 +3,7 @@ use Rattle.std.specs.Prelude.{◌≡◌, ℕ, ◌+◌, ◌^◌, ◌<◌, ◌≤�
 use Rattle.std.specs.Global.{Box}
 use Rattle.aml_children.specs.declared.children.Child.{Child}
 use Rattle.aml_children.specs.declared.children.Kept.{Kept}
-use Rattle.aml_children.specs.declared.children.Kept.TheVariants.{Nobody, Only, Many}
+use Rattle.aml_children.specs.declared.children.Kept.TheVariants.{Nobody, Only, Few, Many}
 use Rattle.aml_children.specs.declared.trees.Fork.{Fork}
 
 -- the children of a fork in order
@@ -69,13 +69,15 @@ Rebalances None m = m ≡ None
 Rebalances (Some b) None = ⊥
 Rebalances (Some b) (Some m) = IsRebalanced b.value m.value
 
--- the children that are kept in one of three ways
+-- the children that are kept in one of four ways
 abbrev pub kept_list : Kept → List Child
 kept_list Nobody = []
 kept_list (Only c) = c ∷ []
+kept_list (Few b) = b.value.items
 kept_list (Many t) = t.0
 
--- where they are a tree, it is low, and there are two of them or more
+-- a list of them is short, and a tree is low
 abbrev pub IsFit : Kept → Type 0
-IsFit (Many t) = (t.1 ≤ 64) × (1 < length t.0)
+IsFit (Few b) = length b.value.items ≤ 32
+IsFit (Many t) = t.1 ≤ 64
 IsFit _ = Unit {0}

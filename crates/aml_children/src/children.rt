@@ -4,6 +4,7 @@ ghost use Rattle.std.specs.Prelude.{◌≡◌, ◌≤◌, [], ◌∷◌, None, O
 ghost use Rattle.aml_names.specs.Paths.{seg_cmp};
 ghost use Rattle.aml_children.specs.Children.{child_in, Rise, put, behind, first_node};
 
+use crate::lists::{MOST, find_in, node_after, node_in, put_in, tree_of};
 use crate::trees::Tree;
 use aml_names::Seg;
 use std::alloc::{AllocError, Global};
@@ -26,13 +27,18 @@ pub struct Children {
     kept: Kept,
 }
 
-/// How children are kept. An only child, as each segment of a long path is one, needs no memory of its own.
+/// How children are kept. An only child, as each segment of a long path is one, needs no memory of its own; and a few
+/// take less of it, and less time, in a list, than each with a fork of a tree.
 #[derive(Drop)]
 enum Kept {
     Nobody,
     Only(Child),
+    Few(Box<Vec<Child>>),
     Many(Tree),
 }
+
+// Each node has its own.
+const _: () = prove!(size_of::<Children>() == 24);
 
 impl Model for Children {
     ghost use Rattle.std.specs.Prelude.{List};
@@ -65,6 +71,7 @@ impl Children {
         match &self.kept {
             Kept::Nobody => None,
             Kept::Only(child) => child.node_of(seg),
+            Kept::Few(children) => node_in(children.as_slice(), seg),
             Kept::Many(tree) => tree.node(seg),
         }
     }
@@ -76,6 +83,7 @@ impl Children {
         match &self.kept {
             Kept::Nobody => None,
             Kept::Only(child) => Some(child.node),
+            Kept::Few(children) => Some(children.first()?.node),
             Kept::Many(tree) => tree.first(),
         }
     }
@@ -88,6 +96,7 @@ impl Children {
         match &self.kept {
             Kept::Nobody => None,
             Kept::Only(child) => child.node_behind(seg),
+            Kept::Few(children) => node_after(children.as_slice(), seg),
             Kept::Many(tree) => tree.after(seg),
         }
     }
@@ -101,12 +110,12 @@ impl Children {
         match &self.kept {
             Kept::Nobody => (None, 0),
             Kept::Only(child) => (child.node_of(seg), 1),
+            Kept::Few(children) => find_in(children.as_slice(), seg),
             Kept::Many(tree) => tree.find(seg),
         }
     }
 
     /// Puts a child into its place. A refused one changes nothing.
-    #[tactic(auto, using(crate::proofs::Sides::length_put))]
     pub fn insert(&mut self, alloc: Global, child: Child) -> Result<(), AllocError>
         requires rise { Rise self.old }
         requires absent { child_in self.old child.seg ≡ None }
@@ -116,7 +125,16 @@ impl Children {
         match &mut self.kept {
             Kept::Nobody => self.kept = Kept::Only(child),
             Kept::Only(only) => {
-                let mut tree = Tree::of(alloc, *only)?;
+                let mut children = Box::new(alloc, Vec::new(alloc))?;
+                children.push(*only)?;
+                put_in(&mut children, child)?;
+                self.kept = Kept::Few(children);
+            }
+            Kept::Few(children) => {
+                if children.len() < MOST {
+                    return put_in(children, child);
+                }
+                let mut tree = tree_of(alloc, children.as_slice())?;
                 tree.insert(alloc, child)?;
                 self.kept = Kept::Many(tree);
             }

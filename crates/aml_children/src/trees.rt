@@ -59,14 +59,6 @@ impl Tree {
         Tree { top: None }
     }
 
-    /// One child.
-    pub fn of(alloc: Global, child: Child) -> Result<Tree, AllocError>
-        ensures { IfOk result (λ tree. tree ≡ (child ∷ [], 1)) }
-    {
-        let leaf = Box::new(alloc, Fork::leaf(child))?;
-        Ok(Tree { top: Some(leaf) })
-    }
-
     pub fn height(&self) -> u64
         ensures { result ≡ self.now.1 }
     {
