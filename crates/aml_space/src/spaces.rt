@@ -260,7 +260,7 @@ impl Space {
     }
 
     /// Opens a path as a scope inside those that are open, so that what stands there is found by its node. `most`: how
-    /// many paths are kept in it at most, as a method's is; where they are few, a long path keeps its scope's segments,
+    /// many paths are kept in it at most, as an Alias' target is; where they are few, a long path keeps its scope's segments,
     /// and nothing is copied. A refused call opens none.
     pub fn enter(
         &mut self,
