@@ -260,8 +260,8 @@ impl Space {
     }
 
     /// Opens a path as a scope inside those that are open, so that what stands there is found by its node. `most`: how
-    /// many paths are kept in it at most, as an Alias' target is; where they are few, a long path keeps its scope's segments,
-    /// and nothing is copied. A refused call opens none.
+    /// many paths are kept in it at most, as an Alias' target is; where they are few, a long path keeps its scope's
+    /// segments, and nothing is copied. A refused call opens none.
     pub fn enter(
         &mut self,
         near: Near,
