@@ -1,6 +1,6 @@
 # shellcheck shell=sh
-# What the tests in sh and bash share: a folder of their own, in which they run, the counts of what passes and what fails, and
-# the last line. The first row that fails ends a test that sets `stop`.
+# What the tests in sh and bash share: a folder of their own, in which they run, the counts of what passes and what fails, the
+# last line, and how they make commands and sets. The first row that fails ends a test that sets `stop`.
 
 top=$(CDPATH='' cd -- "$(dirname -- "$0")/.." && pwd) || exit 1
 work=$(mktemp -d) || exit 1
@@ -9,6 +9,8 @@ cd "$work" || exit 1
 passed=0
 failed=0
 stop=
+sources=$top/crates/acpidis_program
+demo=$sources/data/demo
 
 # end: prints the last line, and ends the test
 end() {
@@ -31,4 +33,10 @@ fail() {
 # is NAME GOT WANTED
 is() {
     if [ "$2" = "$3" ]; then pass; else fail "$(printf '%s: got\n%s\nnot\n%s' "$1" "$2" "$3")"; fi
+}
+
+# script FILE: makes a command of the lines on standard input
+script() {
+    cat >"$1"
+    chmod +x "$1"
 }

@@ -92,7 +92,7 @@ OF_PROGRAM = (
     "tests/examples.py --stop",
     "tests/asl.py --sets 0 --stop",
     "tests/refusals.sh program",
-    "tests/limits.sh --short --stop",
+    "tests/limits.py --short --stop",
     "tests/worked_runs.py",
     "tests/large_sets.py --stop",
     "tests/oracle/compare.py --sets 20",
