@@ -6,7 +6,6 @@
 chmod 755 "$work"
 "$top/acpidis" --program >/dev/null 2>&1
 cp "$top/out/acpidis" program || exit 1
-demo=$top/crates/acpidis_program/data/demo
 
 # row NAME STATUS LINES WORD..: the command has this status, and prints these lines on standard error, or nothing. Where it is
 # refused nothing goes to standard output.
@@ -82,7 +81,7 @@ from made_aml import table
 open(sys.argv[1], "wb").write(table(sys.argv[2].encode(), bytes.fromhex(sys.argv[3])))' "$@"
 }
 
-cp "$top/crates/acpidis_program/stdout" demo.text
+cp "$sources/stdout" demo.text
 fresh
 
 # a folder with a body that calls what nothing declares, among others; the last table has a wrong checksum in `summed`
@@ -96,8 +95,7 @@ acpidis: body \DDDD: UnknownName at 1'
 python3 "$top/tests/oracle/listing.py" raw >raw.text 2>/dev/null
 
 # the command line
-tells --help '--workers' '--any-sum' '--any-run' '--unknown-zero' '--check' 'FOLDER'
-tells -h '--workers' '--any-sum' '--any-run' '--unknown-zero' '--check' 'FOLDER'
+for word in --help -h; do tells $word '--workers' '--any-sum' '--any-run' '--unknown-zero' '--check' 'FOLDER'; done
 tells --version '^acpidis [0-9]'
 refuses 'no word' FOLDER
 refuses 'options without a folder' FOLDER --check

@@ -33,8 +33,7 @@ for file in bin/acpidis share/man/man1/acpidis.1 $(printf 'share/%s ' $shells) s
     file=$prefix/$file
     is "$file" "$(printf '%s\n' "$said" | grep -cxF -- "$file")" 1
 done
-program=$top/crates/acpidis_program
-is 'it runs' "$("$prefix/bin/acpidis" "$program/data/demo")" "$(cat "$program/stdout")"
+is 'it runs' "$("$prefix/bin/acpidis" "$demo")" "$(cat "$sources/stdout")"
 is 'it is what the launcher runs' "$(cksum <"$prefix/bin/acpidis")" "$(cksum <"$("$top/acpidis" --program)")"
 is 'modes, whatever the umask' "$(modes "$prefix/share")" '644f 755d 755f '
 is 'examples that are run' "$(find "$prefix/share" -type f -perm 755 | wc -l)" \
@@ -44,8 +43,8 @@ if command -v man >/dev/null; then
     is 'the page is found' "$(man -M "$prefix/share/man" -w acpidis 2>&1)" "$page"
 fi
 docs=$prefix/share/doc/acpidis
-is 'commands find the program' "$(PATH=$prefix/bin:$PATH acpidis-missing "$program/data/demo" 2>&1)" '# no body waits for a name'
-is 'another program' "$(ACPIDIS=/none/acpidis "$prefix/bin/acpidis-missing" "$program/data/demo" 2>&1)" \
+is 'commands find the program' "$(PATH=$prefix/bin:$PATH acpidis-missing "$demo" 2>&1)" '# no body waits for a name'
+is 'another program' "$(ACPIDIS=/none/acpidis "$prefix/bin/acpidis-missing" "$demo" 2>&1)" \
     'missing: no program acpidis: install it, or name it in ACPIDIS'
 for script in "$top"/examples/*.py "$top"/examples/*.sh; do
     name=${script##*/}
@@ -53,7 +52,7 @@ for script in "$top"/examples/*.py "$top"/examples/*.sh; do
         is "acpidis-${name%.*}" "$(PATH=$prefix/bin:$PATH "acpidis-${name%.*}" --help 2>&1 | grep -c .)" "$("$script" --help 2>&1 | grep -c .)"
     fi
 done
-is 'the survey as a command' "$(cd "$work" && mkdir -p sets && cp -r "$program/data/demo" sets &&
+is 'the survey as a command' "$(cd "$work" && mkdir -p sets && cp -r "$demo" sets &&
     PATH=$prefix/bin:$PATH acpidis-survey sets lines 2>&1 && cut -f 1-3 lines)" "$(printf 'survey: status 0: 1\ndemo\t0\t-')"
 is 'pages that the manual names' "$(sed -n 's|.*doc/acpidis/\([a-z_]*\.md\).*|\1|p' "$page" | sort -u |
     while read -r name; do [ -f "$docs/$name" ] || echo "$name"; done)" ''
@@ -67,8 +66,8 @@ is 'links of the pages' "$(links | while read -r name; do [ -z "$name" ] || [ -f
 is 'links there are' "$(links | grep -cx 'README.md\|page.png\|figures.svg')" 3
 is 'all scripts are there' "$(cd "$prefix/share/acpidis" && find . -type f | sort)" \
     "$(cd "$top/examples" && find . -type f ! -name '*.pyc' ! -name 'acpidis.*' | sort)"
-is 'the page of a listing' "$("$prefix/bin/acpidis-page" "$program/stdout" 2>&1 | cksum)" \
-    "$("$top/examples/page.py" "$program/stdout" | cksum)"
+is 'the page of a listing' "$("$prefix/bin/acpidis-page" "$sources/stdout" 2>&1 | cksum)" \
+    "$("$top/examples/page.py" "$sources/stdout" | cksum)"
 is 'a second time' "$(PREFIX=$prefix sorted "$top/install")" "$said"
 touch "$prefix/bin/other"
 is 'what is taken away' "$(PREFIX=$prefix sorted "$top/install" --remove)" "$said"
@@ -88,11 +87,10 @@ mkdir folder && : >file
 is 'a folder' "$(completed acpidis f)" folder
 is 'a file' "$(completed acpidis --externals f | tr ' ' '\n' | sort | tr '\n' ' ')" 'file folder '
 is 'a number' "$(completed acpidis --workers 3)" 32
-cat >later <<'S'
+script later <<'S'
 #!/bin/sh
 printf '%s\n' 'Usage: later' '' 'Options:' '  -f, --from <FILE>  a file' '      --flag' '' 'Others:' '      --other'
 S
-chmod +x later
 is 'options of another help' "$(completed ./later -)" '--from --flag'
 is 'a file for one of them' "$(completed ./later --from fil)" file
 if command -v zsh >/dev/null; then

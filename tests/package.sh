@@ -41,7 +41,7 @@ mkdir first
         git commit -q -m 'a checkout' && git clone -q . '../a second/checkout'
 ) || exit 1
 commit=$(git -C first rev-parse HEAD)
-version=$(sed -n 's/.*VERSION: &str = "\(.*\)";/\1/p' "$top/crates/acpidis_program/src/version.rt")
+version=$(sed -n 's/.*VERSION: &str = "\(.*\)";/\1/p' "$sources/src/version.rt")
 logic=$(rt version | sed 's/.* logic //')
 stamp="acpidis $version commit $commit logic $logic"
 stand_in program "$stamp" || exit 1
@@ -152,7 +152,7 @@ first/package >/dev/null
 
 # a program that is built here: a command rt in front of the kit's writes into it what the copy of its source says
 mkdir commands
-cat >commands/rt <<S
+script commands/rt <<S
 #!/bin/sh
 case \$1 in version | doc) exec '$(command -v rt)' "\$@" ;; esac
 echo "\${PWD##*/}" >>'$work/log'
@@ -163,11 +163,8 @@ if [ "\$1" = run ]; then
         "\${CC:-cc}" -o acpidis_program stand_in.c
 fi
 S
-chmod +x commands/rt
 mkdir failing
-sed '/^echo/,$d' commands/rt >failing/rt
-echo 'exit 1' >>failing/rt
-chmod +x failing/rt
+sed '/^echo/{s/.*/exit 1/;q}' commands/rt | script failing/rt
 refused 'a build that fails' 126 'package: ./acpidis ended with status 126' \
     env -u PROGRAM PATH="$work/failing:$PATH" first/package
 built() {
@@ -213,8 +210,7 @@ mv .git first
 stand_in older "acpidis $version commit 0123 logic $logic"
 refused 'a program of another commit' 1 "  acpidis $version commit 0123 logic $logic" env PROGRAM="$work/older" first/package
 refused 'no program' 1 '  No such file or directory' env PROGRAM="$work/none" first/package
-printf '#!/bin/sh\necho "%s"\n' "$stamp" >script
-chmod +x script
+printf '#!/bin/sh\necho "%s"\n' "$stamp" | script script
 refused 'a script for a program' 1 'package: strip ended with status 1' env PROGRAM="$work/script" first/package
 refused 'a word' 2 'package: error: unrecognized arguments: --what' first/package --what
 
@@ -238,8 +234,7 @@ mkdir first/out/package/.part.killed
 first/package >/dev/null
 is 'nothing is left of one that was killed' "$(find first/out/package -name '.part.*')" ''
 mkdir slow
-printf '#!/bin/sh\ntouch "%s/begun"\nsleep 20\n' "$work" >slow/dpkg-deb
-chmod +x slow/dpkg-deb
+printf '#!/bin/sh\ntouch "%s/begun"\nsleep 20\n' "$work" | script slow/dpkg-deb
 before=$(sums)
 PATH="$work/slow:$PATH" first/package >/dev/null 2>&1 &
 while [ ! -e begun ] && kill -0 $! 2>/dev/null; do sleep 0.1; done

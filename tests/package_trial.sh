@@ -9,7 +9,6 @@
 # line is 'N passed, N failed'; where it can't be tried, it says so, with status 77.
 
 . "$(dirname -- "$0")/rows.sh"
-shown=$top/crates/acpidis_program
 
 not_tried() {
     echo "the packages were not tried: $*" >&2
@@ -18,7 +17,7 @@ not_tried() {
 
 command -v debootstrap >/dev/null || not_tried "no debootstrap: Debian's package debootstrap has it"
 [ "$(id -u)" = 0 ] || not_tried 'debootstrap and chroot want root'
-version=$(sed -n 's/.*VERSION: &str = "\(.*\)";/\1/p' "$shown/src/version.rt")
+version=$(sed -n 's/.*VERSION: &str = "\(.*\)";/\1/p' "$sources/src/version.rt")
 if [ -n "$(git -C "$top" status --porcelain)" ]; then version=$version+dirty; fi
 package=$top/out/package/acpidis_${version}_amd64.deb
 archive=$top/out/package/acpidis-$version-linux-amd64.tar.xz
@@ -53,7 +52,7 @@ all() {
 
 is 'no kit' "$(inside 'ls -d /opt/* 2>/dev/null; command -v rt acpidis')" ''
 mkdir "$root/demo"
-cp "$shown"/data/demo/* "$root/demo"
+cp "$demo"/* "$root/demo"
 cp "$package" "$root/acpidis.deb"
 all >"$work/before"
 
@@ -61,7 +60,7 @@ inside 'dpkg -i acpidis.deb' >/dev/null
 is 'it is installed' "$(inside 'dpkg-query -W acpidis')" "acpidis	$version"
 is 'its files are whole' "$(inside 'dpkg --verify acpidis')" ''
 is 'its version' "$(inside 'acpidis --version' | cut -d ' ' -f 1-2)" "acpidis $version"
-is 'the demo' "$(inside 'acpidis demo')" "$(cat "$shown/stdout")"
+is 'the demo' "$(inside 'acpidis demo')" "$(cat "$sources/stdout")"
 is 'a check of the demo' "$(inside 'acpidis --check demo')" 'Check "dsdt.dat" Bytes 9 Methods 1 Raw 0 Same'
 page=acpidis-page
 is 'a page' "$(inside "acpidis demo >listing && $page listing" | cksum)" \
@@ -82,7 +81,7 @@ tar -xJf "$archive" -C "$root$folder"
 folder=$folder/$(basename "$archive" .tar.xz)
 chmod 755 "$root/tmp" "$root/var/tmp" "$root/run/lock" 2>/dev/null
 chmod -R a+rX "$root/demo"
-cp "$shown/stdout" "$root/listing"
+cp "$sources/stdout" "$root/listing"
 
 # nobody COMMAND: what a shell of this user prints in the folder of the archive
 nobody() {
@@ -90,7 +89,7 @@ nobody() {
 }
 
 is 'nothing can be written' "$(nobody 'find / -xdev -writable ! -type l ! -path "/dev/*" ! -path "/proc/*" 2>/dev/null')" ''
-is 'the demo, from a folder with blanks' "$(nobody 'bin/acpidis /demo')" "$(cat "$shown/stdout")"
+is 'the demo, from a folder with blanks' "$(nobody 'bin/acpidis /demo')" "$(cat "$sources/stdout")"
 is 'its version, from there' "$(nobody 'bin/acpidis --version' | cut -d ' ' -f 1-2)" "acpidis $version"
 is 'a page, from there' "$(nobody 'bin/acpidis-page /listing' | grep -c '^<!DOCTYPE html>')" 1
 chmod 1777 "$root/tmp"
@@ -99,13 +98,12 @@ is 'a script that runs it, from there' \
 
 # the commands of the page, in a folder with both packages; ssh leads into the new root, where root needs no sudo
 mkdir "$work/bin" "$work/here"
-cat >"$work/bin/ssh" <<S
+script "$work/bin/ssh" <<S
 #!/bin/sh
 while [ "\$1" != -- ]; do shift; done
 exec chroot '$root' sh -c "cd /root && \$3"
 S
-printf '#!/bin/sh\nshift\nexec "$@"\n' >"$root/usr/bin/sudo"
-chmod +x "$work/bin/ssh" "$root/usr/bin/sudo"
+printf '#!/bin/sh\nshift\nexec "$@"\n' | script "$root/usr/bin/sudo"
 mkdir -p "$root/sys/firmware/acpi"
 cp -r "$root/demo" "$root/sys/firmware/acpi/tables"
 cp "$package" "$archive" "$work/here"
@@ -121,6 +119,6 @@ brought 'dpkg -i' >/dev/null
 is 'the page installs it' "$(inside 'dpkg-query -W acpidis')" "acpidis	$version"
 inside 'dpkg --purge acpidis' >/dev/null
 is 'the page runs the archive' "$(brought 'xz -dc')" ''
-is 'and has the text' "$(cat "$work/here/texts/host")" "$(cat "$shown/stdout")"
+is 'and has the text' "$(cat "$work/here/texts/host")" "$(cat "$sources/stdout")"
 
 end

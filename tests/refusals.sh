@@ -98,25 +98,21 @@ mkdir branches
         printf '\024\016AAAA\0\244BBBB\001\012\005'
 } >branches/dsdt.dat
 printf '\\CCCC 2\n' >counts_given
-for words in '--workers 1' '--workers 3' --check '--externals ../counts_given'; do
+for words in '--workers 1 ../set' '--workers 3 ../set' '--check ../set' '--externals ../counts_given ../set' \
+    '--any-run ../branches'; do
     for how in REFUSE_GROWTH REFUSE_FROM REFUSE_START; do
         # shellcheck disable=SC2086
-        sweep is_whole_or_want "$how" "$top/out/acpidis" --any-sum $words ../set
+        sweep is_whole_or_want "$how" "$top/out/acpidis" --any-sum $words
     done
-done
-for how in REFUSE_GROWTH REFUSE_FROM REFUSE_START; do
-    sweep is_whole_or_want "$how" "$top/out/acpidis" --any-sum --any-run ../branches
 done
 wait
 
 if [ "$parts" = all ]; then
     tests=$top/crates/library_tests/out/library_tests_tests
-    for test in $("$tests" --list | sed -n 's/^\(tests::memory::.*\): test$/\1/p'); do
-        sweep has_passed REFUSE_GROWTH "$tests" "$test"
-        sweep has_passed REFUSE_FROM "$tests" "$test"
-    done
-    for test in $("$tests" --list | sed -n 's/^\(tests::starts::.*\): test$/\1/p'); do
-        sweep has_passed REFUSE_START "$tests" "$test"
+    for kind in memory:REFUSE_GROWTH memory:REFUSE_FROM starts:REFUSE_START; do
+        for test in $("$tests" --list | sed -n "s/^\(tests::${kind%:*}::.*\): test\$/\1/p"); do
+            sweep has_passed "${kind#*:}" "$tests" "$test"
+        done
     done
     wait
 fi

@@ -5,17 +5,15 @@
 . "$(dirname -- "$0")/rows.sh"
 "$top/acpidis" --program >/dev/null 2>&1
 program=$top/out/acpidis
-demo=$top/crates/acpidis_program/data/demo
 survey=$top/examples/survey.sh
 stop=${1-}
 
 # slow.sh is the program, which waits first; calls has a line for each run of it
-cat >slow.sh <<S
+script slow.sh <<S
 #!/bin/sh
 case " \$* " in *' --help '*) ;; *) echo "\$*" >>'$work/calls'; sleep "\${SLOW-0}" ;; esac
 exec '$program' "\$@"
 S
-chmod +x slow.sh
 
 # sets of odd names, among folders that are none
 # shellcheck disable=SC2016
@@ -119,23 +117,20 @@ is 'bytes of an OEM' "$(cut -f 2,4,8 oems)" $'0\t1\t"\\x22\\x5C\\x09~\\xFF " "\\
 # a run that ends by a signal, or takes too long, has a line too
 mkdir -p some
 for number in 1 2 3; do cp -r "$demo" some/$number; done
-printf '#!/bin/sh\ncase $* in *--help*) ;; *some/2) kill -9 $$ ;; esac\nexec %s "$@"\n' "$program" >dies.sh
-chmod +x dies.sh
+printf '#!/bin/sh\ncase $* in *--help*) ;; *some/2) kill -9 $$ ;; esac\nexec %s "$@"\n' "$program" | script dies.sh
 ACPIDIS=$work/dies.sh "$survey" some died 2>/dev/null
 is 'a signal' "$(lines died)" $'1\t0\t-\t1\t1\t0\n2\t137\t-\t-\t-\t-\n3\t0\t-\t1\t1\t0'
-printf '#!/bin/sh\ncase $* in *--help*) ;; *) exec sleep 9 ;; esac\n' >late.sh
-chmod +x late.sh
+printf '#!/bin/sh\ncase $* in *--help*) ;; *) exec sleep 9 ;; esac\n' | script late.sh
 ACPIDIS=$work/late.sh "$survey" -s 0.1 -j 3 some late 2>/dev/null
 is 'too long' "$(lines late)" $'1\t124\t-\t-\t-\t-\n2\t124\t-\t-\t-\t-\n3\t124\t-\t-\t-\t-'
 
 # bounded memory, and a hint that takes too long
-cat >bound.sh <<'S'
+script bound.sh <<'S'
 #!/bin/sh
 case $* in *--help*) exit ;; *--any-run*) exec sleep 20 ;; esac
 echo "acpidis: table \"dsdt.dat\": ModuleCode at $(ulimit -v)" >&2
 exit 1
 S
-chmod +x bound.sh
 ACPIDIS=$work/bound.sh "$survey" -s 0.5 -m 100 -j 3 some bound 2>/dev/null
 is 'bounds' "$(cut -f 1-3 bound | sort | head -n 1)" $'1\t1\ttable "dsdt.dat": ModuleCode at 102400 (--any-run was cut off)'
 is 'no number of megabytes' "$("$survey" -m 0 some bound 2>&1; echo "$?")" $'survey: -m takes a number of megabytes, not 0\n1'
@@ -186,7 +181,7 @@ is 'help' "$("$survey" --help | head -n 1 | cut -c 1-12)" 'Runs acpidis'
 # collect.sh, with another ssh: a host that sends tables, one that sends half of them, one that fails, one that is silent
 collect=$top/examples/collect.sh
 mkdir commands
-cat >commands/ssh <<S
+script commands/ssh <<S
 #!/bin/sh
 while [ "\$1" != -- ]; do shift; done
 echo "\$2" >>'$work/asked'
@@ -202,7 +197,6 @@ many) exec tar -C '$work/crowd' -cf - . ;;
 *) echo first >&2; echo "no way to \$2" >&2; exit 255 ;;
 esac
 S
-chmod +x commands/ssh
 mkdir odd odd/shut
 cp "$demo/dsdt.dat" odd
 cp "$demo/dsdt.dat" odd/shut
