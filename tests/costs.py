@@ -9,12 +9,11 @@ PROGRAM is out/acpidis if left out. It needs a C compiler, for refusals.c. The l
 
 import os
 import pathlib
-import shutil
 import subprocess
 import sys
 import tempfile
 
-from tally import DEMO, PROGRAM, TOP, Tally  # before the others, whose places it tells
+from tally import DEMO, PROGRAM, Tally, shim_in  # before the others, whose places it tells
 import hostile_shapes as shapes
 import measuring
 import sets
@@ -81,9 +80,7 @@ def bounded(program, shape, folder):
 
 def measure(program, room):
     """What was counted, each with its bound."""
-    compiler = os.environ.get("CC") or next(filter(None, map(shutil.which, ["cc", "gcc", "clang"])))
-    shim, folder = room / "refusals.so", room / "set"
-    subprocess.run([compiler, "-O1", "-shared", "-fPIC", "-o", shim, TOP / "tests/refusals.c", "-ldl"], check=True)
+    shim, folder = shim_in(room), room / "set"
     folder.mkdir()
     (folder / "dsdt.dat").write_bytes(sets.many_methods(METHODS))
     length, writes, freed = count_calls(program, shim, folder)

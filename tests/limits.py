@@ -1,13 +1,13 @@
 #!/usr/bin/env python3
-"""Runs the program under limits of memory (ulimit -v) and of the stack (ulimit -s), in small steps, over deep and wide sets,
-with 1, 4 and 64 workers.
+"""Runs the program under limits of memory (ulimit -v) and of the stack (ulimit -s), in small steps, over deep and wide
+sets, with 1, 4 and 64 workers.
 
     python3 tests/limits.py [--short] [--stop] [PROGRAM]
 
-Each run gives the whole text, or nothing but 'acpidis: NoMemory' or 'acpidis: NoThread' with status 1; no signal ends it.
-What the whole text is the independent reading of tests/oracle says, and without limits it has to come. PROGRAM is
-out/acpidis if left out. The sweep takes some minutes, with --short seconds. With --stop the first row that fails ends it.
-The last line is 'N passed, N failed'.
+Each run gives the whole text, or nothing but 'acpidis: NoMemory' or 'acpidis: NoThread' with status 1; no signal ends
+it. What the whole text is the independent reading of tests/oracle says, and without limits it has to come. PROGRAM is
+out/acpidis if left out. The sweep takes some minutes, with --short seconds. With --stop the first row that fails ends
+it. The last line is 'N passed, N failed'.
 """
 
 import contextlib
@@ -39,9 +39,10 @@ LEAST_STACK, MOST_STACK = 16, 1_040
 ENOUGH = 3
 
 
-def ended(*words):
+def ended(*words, **more):
     """How a command ends."""
-    ran = subprocess.run(words, stdin=subprocess.DEVNULL, capture_output=True, text=True, errors="replace", check=False)
+    how = {"stdin": subprocess.DEVNULL, "capture_output": True, "text": True, "errors": "replace", "check": False}
+    ran = subprocess.run(words, **how, **more)
     return Outcome(ran.returncode, ran.stdout, ran.stderr)
 
 
@@ -67,7 +68,8 @@ class Checks(Tally):
         memory_step, stack_step, _ = steps
         in_a_row = 0
         for limit in range(least, MOST, memory_step):
-            in_a_row = in_a_row + 1 if self.is_whole(f"{what}, {limit} KB", limited("-v", limit, *command), whole) else 0
+            is_whole = self.is_whole(f"{what}, {limit} KB", limited("-v", limit, *command), whole)
+            in_a_row = in_a_row + 1 if is_whole else 0
             if in_a_row == ENOUGH:
                 break
         else:

@@ -91,7 +91,7 @@ OF_PROGRAM = (
     "tests/install.sh",
     "tests/examples.py --stop",
     "tests/asl.py --sets 0 --stop",
-    "tests/refusals.sh program",
+    "tests/refusals.py program",
     "tests/limits.py --short --stop",
     "tests/worked_runs.py",
     "tests/large_sets.py --stop",
@@ -117,7 +117,7 @@ def trials(room):
         yield Trial(f"tests/costs.py, a program that {what}", ["tests/costs.py"], placed(STUBS[what]))
     for script, what, file, text in EMPTIED:
         yield Trial(f"{script}, {what}", [script], {file: text})
-    yield Trial("tests/refusals.sh, no C compiler", ["tests/refusals.sh", "program"], placed(REFUSES), without_compilers(room))
+    yield Trial("tests/refusals.py, no C compiler", ["tests/refusals.py", "program"], placed(REFUSES), without_compilers(room))
     yield Trial("tests/worked_runs.py, no examples", ["tests/worked_runs.py"], {"tests/worked_runs.txt": "", **placed(EMPTY)})
     runs = (TOP / RUNS).read_text()
     for what, (rule, other) in READINGS.items():

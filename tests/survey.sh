@@ -28,25 +28,13 @@ cp "$demo/dsdt.dat" "sets/rack 1/plain/dynamic"
 cp "$demo/dsdt.dat" sets/data
 echo 'no table' >sets/text/NOTES
 echo 'beside the sets' >sets/NOTES
-cat >wanted <<'W'
-data	0	-	1	1	0
-empty	1	NoDsdt	-	-	-
-rack 1/$(touch bad)	0	-	1	1	0
-rack 1/%s	0	-	1	1	0
-rack 1/*	0	-	1	1	0
-rack 1/-dash	0	-	1	1	0
-rack 1/@	0	-	1	1	0
-rack 1/\xC3\xA9	0	-	1	1	0
-rack 1/]	0	-	1	1	0
-rack 1/back\x5Cslash	0	-	1	1	0
-rack 1/new\x0Aline\x0A	0	-	1	1	0
-rack 1/not\xFFtext	0	-	1	1	0
-rack 1/plain	0	-	1	1	0
-rack 1/quote'"	0	-	1	1	0
-rack 1/tab\x09here	0	-	1	1	0
-rack 1/two words	0	-	1	1	0
-text	1	table "NOTES": Short	-	-	-
-W
+# shellcheck disable=SC2016
+shown=(plain 'two words' 'tab\x09here' 'new\x0Aline\x0A' 'back\x5Cslash' -dash '$(touch bad)' '*' ']' "quote'\"" '\xC3\xA9'
+    'not\xFFtext' %s @)
+{
+    printf '%s\t0\t-\t1\t1\t0\n' data "${shown[@]/#/rack 1/}"
+    printf '%s\t1\t%s\t-\t-\t-\n' empty NoDsdt text 'table "NOTES": Short'
+} | LC_ALL=C sort >wanted
 lines() {
     LC_ALL=C sort "$1" | cut -f 1-6
 }

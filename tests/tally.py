@@ -5,7 +5,9 @@ from __future__ import annotations
 import argparse
 import importlib.util
 import itertools
+import os
 import pathlib
+import shutil
 import subprocess
 import sys
 import types
@@ -78,6 +80,14 @@ def on_full_disk(name: str, *words: object, **more: object) -> tuple[int, str]:
     with open("/dev/full", "wb") as full:
         run = run_script(name, *words, stdout=full, **more)
     return run.returncode, run.stderr
+
+
+def shim_in(room: pathlib.Path) -> pathlib.Path | None:
+    """The library of refusals.c, compiled; None without a C compiler."""
+    compiler = os.environ.get("CC") or next(filter(None, map(shutil.which, ("cc", "gcc", "clang"))), None)
+    shim = room / "refusals.so"
+    words = [compiler, "-O1", "-shared", "-fPIC", "-o", shim, TOP / "tests/refusals.c", "-ldl"]
+    return shim if compiler and subprocess.run(words, check=True) else None
 
 
 def parser(about: str | None, folders: bool = False) -> argparse.ArgumentParser:

@@ -1,6 +1,6 @@
 //! Answers where a growth is refused, a thread's start included: the whole answer, or the want of memory or a thread.
 //!
-//! `tests/refusals.sh` runs each of these tests again and again, with each growth refused in turn. Where none is
+//! `tests/refusals.py` runs each of these tests again and again, with each growth refused in turn. Where none is
 //! refused the answer has to be whole.
 ghost use Rattle.std.specs.Prelude.{◌≤◌};
 ghost use Rattle.aml_set.specs.Code.{AreShort};

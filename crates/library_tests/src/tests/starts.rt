@@ -1,6 +1,6 @@
 //! Answers where the start of a thread is refused: the whole answer, or the want of a thread, and never that of memory.
 //!
-//! `tests/refusals.sh` runs each of these tests again and again, with each start refused in turn. Where none is
+//! `tests/refusals.py` runs each of these tests again and again, with each start refused in turn. Where none is
 //! refused the answer has to be whole.
 use super::fixtures::{has_share, has_squares, is_whole_or_no_thread};
 use super::listings::{ThreeBodies, holds_of_three};

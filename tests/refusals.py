@@ -1,0 +1,109 @@
+#!/usr/bin/env python3
+"""Tries what is answered where a growth or the start of a thread is refused: the whole answer, or the want of memory or
+of a thread.
+
+    python3 tests/refusals.py [program]
+
+The tests of library_tests in `memory` run with each growth refused in turn, by itself and with all later ones, those in
+`starts` with each start. So does the program, over a set whose first method can't be read, and over one with code
+outside methods. Each thread that was started has to be joined, and a want is an answer only where something was
+refused. With the word program only the program runs so, as in ./test, in some seconds; the tests are proved and built
+first. It needs a C compiler, for refusals.c. The last line is 'N passed, N failed'.
+"""
+
+import concurrent.futures
+import itertools
+import os
+import pathlib
+import re
+import sys
+import tempfile
+
+# Before the others, whose places it tells
+from tally import PROGRAM, TOP, Tally, parser, shim_in, written
+from limits import WANTS, ended
+from made_aml import method, packed, tables
+from running import DONE, RAW
+
+CRATE = TOP / "crates/library_tests"
+TESTS = CRATE / "out/library_tests_tests"
+GROWTH, FROM, START = "REFUSE_GROWTH", "REFUSE_FROM", "REFUSE_START"
+NO_BODY = method(b"AAAA", 0, b"\xA4BBBB\1\x0A\5")
+# Two branches that declare one method
+BRANCHES = packed(b"\xA0", b"CCCC" + method(b"FOO_", 1)) + packed(b"\xA1", method(b"FOO_", 1, b"\xA4h"))
+SETS = {
+    "set": {**tables(NO_BODY, method(b"FOO_", 1, b"\xA4h")), "tables.map": b""},
+    "branches": tables(b"\x08CCCC\0" + BRANCHES + method(b"BAR_", 0, b"FOO_\1") + NO_BODY),
+}
+RUNS = ("--workers 1 set", "--workers 3 set", "--check set", "--externals counts set", "--any-run branches")
+
+
+def is_right(outcome, whole, how, is_refused):
+    """Whether all came, or a want where something was refused. Want of memory may refuse a start too, but a refused
+    start is no want of memory."""
+    if outcome.status == whole.status:
+        return whole.status == RAW and outcome == whole
+    return is_refused and outcome in (WANTS[1:] if how == START else WANTS)
+
+
+def sweep(room, shim, how, command):
+    """Refuses the calls of a command one after the other: how many of its answers are right, what is said, and whether
+    all are. The last run is the first in which there is no call to refuse: one that is refused counts."""
+    whole, shown = ended(*command, cwd=room), " ".join(map(str, command)).removeprefix(f"{TOP}/")
+    for number in itertools.count(1):
+        words = ["timeout", "60", "env", f"{how}={number}", "REFUSED=0", f"LD_PRELOAD={shim}", *command]
+        with tempfile.NamedTemporaryFile("r", dir=room) as file:
+            outcome, counts = ended("sh", "-c", 'exec "$@" 3>"$0"', file.name, *words, cwd=room), file.read()
+        growths, starts, refused, joins, *_ = map(int, counts.split() or [0, 0, 0, -1])
+        calls = starts if how == START else growths
+        # A test knows by itself whether a want is an answer.
+        is_test = command[0] == TESTS and outcome.status == whole.status == DONE
+        if joins != starts - refused or not (is_test or is_right(outcome, whole, how, calls >= number)):
+            said = f"FAILED {how}={number} {shown}: status {outcome.status}, counts {counts}{outcome.err}"
+            return number - 1, said, False
+        if calls < number:
+            return number, f"{how} {shown}: {calls}", True
+
+
+def sweeps(is_program):
+    """What is refused, and the command."""
+    for words, how in itertools.product(RUNS, (GROWTH, FROM, START)):
+        yield how, [PROGRAM, "--any-sum", *words.split()]
+    names = "" if is_program else ended(TESTS, "--list").out
+    for kind, how in (("memory", GROWTH), ("memory", FROM), ("starts", START)):
+        yield from ((how, [TESTS, name]) for name in re.findall(rf"^(tests::{kind}::.*): test$", names, re.M))
+
+
+def built(*words, **more):
+    """Runs a command without which nothing can be tried."""
+    ran = ended(*words, **more)
+    if ran.status:
+        sys.exit(ran.out + ran.err)
+
+
+def main():
+    words, checks = parser(__doc__), Tally()
+    words.add_argument("part", nargs="?", choices=["program"])
+    part = words.parse_args().part
+    lanes = concurrent.futures.ThreadPoolExecutor(len(os.sched_getaffinity(0)))
+    with tempfile.TemporaryDirectory() as name, lanes as pool:
+        room = pathlib.Path(name)
+        shim = shim_in(room)
+        if not shim:
+            checks.is_so("there is no C compiler, so that nothing can be refused, and nothing is tried", False)
+            checks.end()
+        if not part:
+            built("rt", "test", "--", "memory", cwd=CRATE)
+        built(TOP / "acpidis", "demo")
+        for folder, files in SETS.items():
+            written(room / folder, files)
+        (room / "counts").write_text("\\CCCC 2\n")
+        for passed, said, is_whole in pool.map(lambda it: sweep(room, shim, *it), sweeps(part)):
+            print(said, flush=True)
+            checks.passed += passed
+            checks.failed += not is_whole
+    checks.end()
+
+
+if __name__ == "__main__":
+    main()
