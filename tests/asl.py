@@ -11,19 +11,16 @@ that fails ends it. The last line is 'N passed, N failed'.
 """
 
 import concurrent.futures
-import contextlib
 import itertools
 import os
 import pathlib
 import random
 import re
-import resource
 import shutil
 import subprocess
-import tempfile
 
 # Before the others, whose places it tells
-from tally import DEMO, PROGRAM, TOP, Stopped, Tally, parser, run_script, written
+from tally import DEMO, PROGRAM, TOP, Tally, parser, run_script, timed, written
 import board
 import splice
 from acpidis_tools.asl.blocks import Block, Reader
@@ -47,8 +44,8 @@ SAMPLES = {"pages": PAGES_FILES, "hostile": HOSTILE_FILES, "runs": RUNS_FILES, *
 
 
 class Checks(Tally):
-    def __init__(self, room, stops):
-        super().__init__(room, stops)
+    def __init__(self, stops):
+        super().__init__(stops)
         self.same = self.told = 0
 
     def run(self, script, *words, **more):
@@ -202,13 +199,6 @@ def check_names(checks):
         checks.is_so(f"files of harmless names: {found}", len(found) == len(names) and is_harmless)
 
 
-def seconds_of(checks, *words):
-    """The processor time of a script."""
-    before = resource.getrusage(resource.RUSAGE_CHILDREN).ru_utime
-    checks.run(*words)
-    return resource.getrusage(resource.RUSAGE_CHILDREN).ru_utime - before
-
-
 def check_speed(checks):
     """Time grows as the text: 1 MB in three seconds, and four times the text in less than eight times that (its square: 16)."""
     block = text_with("Store (Add (FOO_ (0x12), Buffer (0x08) {01, 02, 03, 04, 05, 06, 07, 08}, Local0), BAR_)")
@@ -216,7 +206,8 @@ def check_speed(checks):
     times = []
     for size in (1_000_000, 4_000_000):
         lines = 'DefinitionBlock ("a.dat") {\n' + body[:-2] * (size // len(body)) + "}\n"
-        times.append(seconds_of(checks, ASL, "--edit", checks.text(f"{size}.text", head + lines), f"of{size}"))
+        text = checks.text(f"{size}.text", head + lines)
+        times.append(timed(checks.run, ASL, "--edit", text, f"of{size}")[1])
     checks.is_so(f"seconds of 1 MB and 4 MB: {times}", times[0] < 3 and times[1] < 8 * times[0])
 
 
@@ -481,7 +472,7 @@ def check_unpack(checks):
     check_chain(checks)
     image = b"DSDT\xFF\xFF\x00\x00\1\0TEST  EXAMPLE \1\0\0\0TEST\1\0\0\0" * 30_000 + b"DSDT"
     (checks.room / "claims").write_bytes(image)
-    seconds = seconds_of(checks, UNPACK, "claims", "claims.d")
+    _, seconds = timed(checks.run, UNPACK, "claims", "claims.d")
     checks.is_so(f"an image of 1 MB that claims many tables: {seconds} s", seconds < 3)
 
 
@@ -581,8 +572,7 @@ def main():
     asked = words.parse_args()
     if not IASL:
         print("iasl isn't there (acpica-tools): nothing is compiled")
-    with tempfile.TemporaryDirectory() as room, contextlib.suppress(Stopped):
-        checks = Checks(pathlib.Path(room), asked.stop)
+    with Checks(asked.stop) as checks:
         for check in CHECKS:
             check(checks)
         check_sets(checks, asked.sets, asked.folders)
@@ -592,7 +582,6 @@ def main():
             added(checks, "of the demo", read_folder(DEMO), [])
             added(checks, "of Externals", dumps_of(tables(EXTERNALS)), [])
             check_edit(checks)
-    checks.end()
 
 
 if __name__ == "__main__":

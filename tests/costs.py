@@ -8,10 +8,8 @@ PROGRAM is out/acpidis if left out. It needs a C compiler, for refusals.c. The l
 """
 
 import os
-import pathlib
 import subprocess
 import sys
-import tempfile
 
 from tally import DEMO, PROGRAM, Tally, shim_in  # before the others, whose places it tells
 import hostile_shapes as shapes
@@ -97,12 +95,11 @@ def measure(program, room):
 
 
 def main():
-    program, checks = os.path.abspath(sys.argv[1] if len(sys.argv) > 1 else PROGRAM), Tally()
-    with tempfile.TemporaryDirectory() as room:
-        for name, count, most in measure(program, pathlib.Path(room)):
+    program = os.path.abspath(sys.argv[1] if len(sys.argv) > 1 else PROGRAM)
+    with Tally() as checks:
+        for name, count, most in measure(program, checks.room):
             print(f"{name}: {count}, at most {most}")
             checks.is_so(name, count <= most)
-    checks.end()
 
 
 main()

@@ -215,19 +215,17 @@ def made_set(room: pathlib.Path) -> pathlib.Path:
 
 
 def main() -> None:
-    checks = Tally()
-    check_rows(checks)
-    check_words(checks)
-    with tempfile.TemporaryDirectory() as room:
-        made = made_set(pathlib.Path(room))
+    with Tally() as checks:
+        check_rows(checks)
+        check_words(checks)
+        made = made_set(checks.room)
         check_notes(checks, made)
-        check_objects(checks, pathlib.Path(room))
+        check_objects(checks, checks.room)
         if shutil.which("iasl"):
             for folder in (DEMO, made, *map(pathlib.Path, sys.argv[1:])):
                 compare(checks, folder.name, folder)
         else:
             print("iasl is not there, so nothing is compared with it: on Debian, apt-get install acpica-tools")
-    checks.end()
 
 
 if __name__ == "__main__":

@@ -7,18 +7,14 @@ They run the program as they find it: ACPIDIS names another. With --stop the fir
 'N passed, N failed'.
 """
 
-import contextlib
 import itertools
 import os
-import pathlib
 import re
-import resource
 import subprocess
 import sys
-import tempfile
 
 # Before the others, whose places it tells
-from tally import TOP, Stopped, Tally, on_full_disk, run_script, written
+from tally import TOP, Tally, on_full_disk, run_script, timed, written
 from made_aml import device, packed as block, scope, table, tables
 
 
@@ -231,9 +227,7 @@ def try_deep(tries):
     for folder in ("nested", "long", "below"):
         for command in ("refused.py", "refused.py --any-run", "calls.py --any-run", "missing.py --any-run"):
             script, *words = command.split()
-            before = resource.getrusage(resource.RUSAGE_CHILDREN).ru_utime
-            run = tries.run(script, *words, folder)
-            seconds = resource.getrusage(resource.RUSAGE_CHILDREN).ru_utime - before
+            run, seconds = timed(tries.run, script, *words, folder)
             is_said = run.returncode in (0, 1, 2) and "Traceback" not in run.stderr and len(run.stderr.splitlines()) < 50
             tries.is_so(f"{script}, {folder}: {run.returncode}, {run.stderr[-300:]}", is_said)
             tries.is_so(f"{script}, {folder}: {seconds} seconds", seconds < 2)
@@ -278,8 +272,7 @@ def try_hostile(tries):
 
 
 def main():
-    with tempfile.TemporaryDirectory() as room, contextlib.suppress(Stopped):
-        tries = Tries(pathlib.Path(room), "--stop" in sys.argv[1:])
+    with Tries("--stop" in sys.argv[1:]) as tries:
         try_rows(tries)
         try_many_missing(tries)
         try_refused(tries)
@@ -287,7 +280,6 @@ def main():
         try_damage(tries)
         try_deep(tries)
         try_hostile(tries)
-    tries.end()
 
 
 if __name__ == "__main__":

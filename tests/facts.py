@@ -19,7 +19,6 @@ import pathlib
 import sqlite3
 import subprocess
 import sys
-import tempfile
 
 # Before the others, whose places it tells
 from tally import TOP, Tally, first_difference, module_of, on_full_disk, parser, run_script, written
@@ -274,19 +273,17 @@ def main() -> None:
     words = parser(__doc__, folders=True)
     words.add_argument("--sets", type=int, default=40)
     asked = words.parse_args()
-    with tempfile.TemporaryDirectory() as room:
-        room = pathlib.Path(room)
-        checks = Tally(room)
-        for sample in samples(room, asked.folders, asked.sets):
+    with Tally() as checks:
+        for sample in samples(checks.room, asked.folders, asked.sets):
             check_set(checks, *sample)
-        (room / "many").mkdir()
-        check_many(checks, room / "many")
-        check_fleet(checks, room / "many")
+        room = checks.room / "many"
+        room.mkdir()
+        check_many(checks, room)
+        check_fleet(checks, room)
         check_progress(checks)
-        make_more(room / "many")
-        check_questions(checks, room / "many")
-        check_words(checks, room / "many")
-    checks.end()
+        make_more(room)
+        check_questions(checks, room)
+        check_words(checks, room)
 
 
 if __name__ == "__main__":

@@ -15,10 +15,9 @@ import random
 import re
 import resource
 import subprocess
-import tempfile
 
 # Before the others, whose places it tells
-from tally import TOP, Tally, module_of, on_full_disk, parser, run_script, written
+from tally import TOP, Tally, module_of, on_full_disk, parser, run_script, timed, written
 from acpidis_tools.decoding import Decoder
 from acpidis_tools.errors import read_errors
 from acpidis_tools.listing import NoListing, read_listing
@@ -100,10 +99,9 @@ def run(script: str, *words: object, printed: int = subprocess.DEVNULL, **variab
     def bound() -> None:
         resource.setrlimit(resource.RLIMIT_AS, (MOST_MEMORY, MOST_MEMORY))
 
-    before = resource.getrusage(resource.RUSAGE_CHILDREN)
-    done = run_script(script, *words, stdout=printed, env={**os.environ, **variables}, preexec_fn=bound)
-    after = resource.getrusage(resource.RUSAGE_CHILDREN)
-    return done.returncode, done.stderr, after.ru_utime + after.ru_stime - before.ru_utime - before.ru_stime
+    how = {"stdout": printed, "env": {**os.environ, **variables}, "preexec_fn": bound}
+    done, seconds = timed(run_script, script, *words, **how)
+    return done.returncode, done.stderr, seconds
 
 
 def check_texts(checks: Tally, room: pathlib.Path) -> None:
@@ -207,12 +205,10 @@ def main() -> None:
     words = parser(__doc__)
     words.add_argument("--mutations", type=int, default=200)
     asked = words.parse_args()
-    checks = Tally()
-    with tempfile.TemporaryDirectory() as room:
-        check_texts(checks, pathlib.Path(room))
-        check_outputs(checks, pathlib.Path(room))
-        check_mutations(checks, pathlib.Path(room), asked.mutations)
-    checks.end()
+    with Tally() as checks:
+        check_texts(checks, checks.room)
+        check_outputs(checks, checks.room)
+        check_mutations(checks, checks.room, asked.mutations)
 
 
 if __name__ == "__main__":

@@ -10,7 +10,6 @@ written down here, after docs/listing.md, docs/limits.md and docs/names.md. The 
 """
 
 import concurrent.futures
-import contextlib
 import dataclasses
 import gc
 import itertools
@@ -21,7 +20,7 @@ import sys
 import tempfile
 from typing import NamedTuple
 
-from tally import PROGRAM, Stopped, Tally, parser, written  # before the others, whose places it tells
+from tally import PROGRAM, Tally, parser, written  # before the others, whose places it tells
 from compare import first_difference, run_program
 from dumps import HEADER_LENGTH, MOST_BYTES, MOST_DUMPS, dumps_of
 from loading import MOST_METHODS
@@ -332,14 +331,13 @@ def main():
     words.add_argument("--stop", action="store_true")
     words.add_argument("program", nargs="?", type=pathlib.Path, default=PROGRAM)
     asked = words.parse_args()
-    program, checks = asked.program.resolve(), Tally(stops=asked.stop)
+    program = asked.program.resolve()
     if not program.exists():
         sys.exit("the program isn't built: ./acpidis demo builds it")
-    with contextlib.suppress(Stopped):
+    with Tally(asked.stop) as checks:
         check_cuts(checks, program)
         for trial in itertools.chain.from_iterable(make() for make in LARGE):
             check(checks, trial, difference_of(program, trial)[0])
-    checks.end()
 
 
 if __name__ == "__main__":

@@ -19,14 +19,13 @@ import os
 import pathlib
 import random
 import re
-import resource
 import shutil
 import subprocess
 import sys
 import tempfile
 import time
 
-from tally import DEMO, PROGRAM, TOP, Tally, parser, written  # before the others, whose places it tells
+from tally import DEMO, PROGRAM, TOP, Tally, parser, timed, written  # before the others, whose places it tells
 from compare import write_trial
 from made_aml import tables
 from made_sets import SetMaker
@@ -218,20 +217,12 @@ def try_page(checks, acpidis, room):
     checks.is_so(f"the page: {ran.stdout.decode()}{ran.stderr.decode()}", good)
 
 
-def seconds_of(*words):
-    """The processor time of a command."""
-    before = resource.getrusage(resource.RUSAGE_CHILDREN)
-    run(*words)
-    after = resource.getrusage(resource.RUSAGE_CHILDREN)
-    return after.ru_utime + after.ru_stime - before.ru_utime - before.ru_stime
-
-
 def show_cost(room, lib, program, folders):
     """Says what calls take beside the program."""
     run("gcc", "-O2", *STRICT, LIBRARY / "example.c", *shared(lib), "-o", room / "example")
     for folder in folders:
-        pairs = [(seconds_of(program, "--workers", "1", "--any-run", folder), seconds_of(room / "example", "--any-run", folder))
-                 for _ in range(11)]
+        commands = (program, "--workers", "1", "--any-run", folder), (room / "example", "--any-run", folder)
+        pairs = [[timed(run, *words)[1] for words in commands] for _ in range(11)]
         theirs, ours = (sorted(times)[5] for times in zip(*pairs))
         print(f"{folder}: the program {theirs * 1000:.1f} ms, the library {ours * 1000:.1f} ms, {ours / theirs:.3f}")
     acpidis = importlib.import_module("acpidis")
@@ -248,12 +239,12 @@ def main():
     words.add_argument("--cost", action="store_true", help="only say what calls take")
     words.add_argument("program", nargs="?", type=pathlib.Path, default=PROGRAM)
     words.add_argument("folders", nargs="*", type=pathlib.Path)
-    asked, checks = words.parse_args(), Tally()
+    asked = words.parse_args()
     program = asked.program.resolve()
     if not program.exists():
         sys.exit("the program isn't built: ./acpidis demo builds it")
-    with tempfile.TemporaryDirectory() as name:
-        room = pathlib.Path(name)
+    with Tally() as checks:
+        room = checks.room
         lib = link(room)
         os.environ["ACPIDIS_LIBRARY"] = str(lib / "libacpidis.so.0")
         # Those that are given, or the folders directly in them
@@ -261,13 +252,12 @@ def main():
         folders = [DEMO, *itertools.chain.from_iterable(given)]
         if asked.cost:
             show_cost(room, lib, program, folders)
-            return
+            sys.exit()
         acpidis = importlib.import_module("acpidis")
         try_edge(checks, room, lib, program)
         try_example(checks, room, lib, program, folders)
         try_page(checks, acpidis, room)
         try_python(checks, acpidis, program, folders, asked.sets)
-    checks.end()
 
 
 if __name__ == "__main__":

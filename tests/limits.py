@@ -10,13 +10,11 @@ out/acpidis if left out. The sweep takes some minutes, with --short seconds. Wit
 it. The last line is 'N passed, N failed'.
 """
 
-import contextlib
 import pathlib
 import subprocess
-import tempfile
 
 # Before the others, whose places it tells
-from tally import PROGRAM, Stopped, Tally, parser, written
+from tally import PROGRAM, Tally, parser, written
 import hostile_shapes as shapes
 from running import Options, Outcome, refused, run_folder
 
@@ -97,15 +95,13 @@ def main():
     words.add_argument("program", nargs="?", type=pathlib.Path, default=PROGRAM)
     asked = words.parse_args()
     program = asked.program.resolve()
-    with tempfile.TemporaryDirectory() as room, contextlib.suppress(Stopped):
-        checks = Checks(pathlib.Path(room), asked.stop)
+    with Checks(asked.stop) as checks:
         least = least_memory(program)
         if least is None:
             checks.is_so(f"{program} doesn't start, or ulimit -v does nothing here", False)
         print(f"the program starts with {least} KB")
         for name in sorted(SETS) if least else ():
             checks.check_set(name, program, least, SHORT if asked.short else LONG)
-    checks.end()
 
 
 if __name__ == "__main__":

@@ -15,7 +15,6 @@ import pathlib
 import random
 import re
 import subprocess
-import tempfile
 from collections import Counter
 
 from tally import Tally, first_difference, parser, run_script, written  # before the others, whose places it tells
@@ -267,10 +266,8 @@ def main() -> None:
     words = parser(__doc__, folders=True)
     words.add_argument("--sets", type=int, default=40)
     asked = words.parse_args()
-    with tempfile.TemporaryDirectory() as room:
-        checks = Checks(pathlib.Path(room))
+    with Checks() as checks:
         check_all(checks, asked)
-    checks.end()
 
 
 if __name__ == "__main__":

@@ -14,7 +14,6 @@ first. It needs a C compiler, for refusals.c. The last line is 'N passed, N fail
 import concurrent.futures
 import itertools
 import os
-import pathlib
 import re
 import sys
 import tempfile
@@ -82,27 +81,23 @@ def built(*words, **more):
 
 
 def main():
-    words, checks = parser(__doc__), Tally()
+    words = parser(__doc__)
     words.add_argument("part", nargs="?", choices=["program"])
     part = words.parse_args().part
-    lanes = concurrent.futures.ThreadPoolExecutor(len(os.sched_getaffinity(0)))
-    with tempfile.TemporaryDirectory() as name, lanes as pool:
-        room = pathlib.Path(name)
-        shim = shim_in(room)
+    with Tally(stops=True) as checks, concurrent.futures.ThreadPoolExecutor(len(os.sched_getaffinity(0))) as pool:
+        shim = shim_in(checks.room)
         if not shim:
             checks.is_so("there is no C compiler, so that nothing can be refused, and nothing is tried", False)
-            checks.end()
         if not part:
             built("rt", "test", "--", "memory", cwd=CRATE)
         built(TOP / "acpidis", "demo")
         for folder, files in SETS.items():
-            written(room / folder, files)
-        (room / "counts").write_text("\\CCCC 2\n")
-        for passed, said, is_whole in pool.map(lambda it: sweep(room, shim, *it), sweeps(part)):
+            written(checks.room / folder, files)
+        (checks.room / "counts").write_text("\\CCCC 2\n")
+        for passed, said, is_whole in pool.map(lambda it: sweep(checks.room, shim, *it), sweeps(part)):
             print(said, flush=True)
             checks.passed += passed
             checks.failed += not is_whole
-    checks.end()
 
 
 if __name__ == "__main__":

@@ -7,11 +7,13 @@ import importlib.util
 import itertools
 import os
 import pathlib
+import resource
 import shutil
 import subprocess
 import sys
+import tempfile
 import types
-from collections.abc import Iterable
+from collections.abc import Callable, Iterable
 
 sys.dont_write_bytecode = True
 TOP = pathlib.Path(__file__).resolve().parent.parent
@@ -24,10 +26,21 @@ class Stopped(Exception):
 
 
 class Tally:
-    """The checks of a test, which may have a room for files of theirs, and may stop at the first that fails."""
+    """The checks of a test, which may stop at the first that fails. In a `with` they have a room for files of theirs, and
+    end with it."""
 
-    def __init__(self, room: pathlib.Path | None = None, stops: bool = False) -> None:
-        self.room, self.stops, self.passed, self.failed = room, stops, 0, 0
+    def __init__(self, stops: bool = False) -> None:
+        self.stops, self.passed, self.failed = stops, 0, 0
+
+    def __enter__(self) -> Tally:
+        self.place = tempfile.TemporaryDirectory()
+        self.room = pathlib.Path(self.place.name)
+        return self
+
+    def __exit__(self, kind: type | None, *_: object) -> None:
+        self.place.cleanup()
+        if kind in (None, Stopped):
+            self.end()
 
     def is_same(self, what: str, got: object, wanted: object) -> None:
         self.is_so(f"{what}: got\n{got}\nnot\n{wanted}", got == wanted)
@@ -73,6 +86,14 @@ def run_script(name: str, *words: object, **more: object) -> subprocess.Complete
     """Runs a script of examples/, by its file's name. What it writes is text."""
     how = {"stdout": subprocess.PIPE, "stderr": subprocess.PIPE, "text": True, "check": False, **more}
     return subprocess.run([sys.executable, TOP / "examples" / name, *map(str, words)], **how)
+
+
+def timed(run: Callable, *words: object, **more: object) -> tuple:
+    """What running something gives, and the seconds of processor time that its processes took."""
+    before = resource.getrusage(resource.RUSAGE_CHILDREN)
+    done = run(*words, **more)
+    after = resource.getrusage(resource.RUSAGE_CHILDREN)
+    return done, after.ru_utime + after.ru_stime - before.ru_utime - before.ru_stime
 
 
 def on_full_disk(name: str, *words: object, **more: object) -> tuple[int, str]:

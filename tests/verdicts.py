@@ -8,52 +8,15 @@ constant, for one with a goal that it can't show, and can't read the word UNREAD
 import pathlib
 import os
 import re
-import tempfile
 
 from tally import TOP, Tally, module_of  # before the others, whose places it tells
 
 TESTS = TOP / "tests"
-# The answers that the function `reading::read_name` has: to one goal, by a step on the way
-ANSWERS = """front : (c : goal.In-Ok) → Front c.name
-front c = name_front _
-
-pub returns-in-Ok-clause-sound : goal.returns-in-Ok-clause-sound
-returns-in-Ok-clause-sound c = (front c).spelled
-"""
-# What tests/verdicts.txt has: the function, the verdict, words of its reason, and what was printed
+# What tests/verdicts.txt has: the function, the verdict, words of its reason, and what was printed; then files
 SAMPLE = re.compile(r"^== (\w+) (\w+)(?:: (.*))?\n((?:(?!==|#).*\n)+)", re.M)
-
-# A crate of two modules, of which one has a constant that the other uses.
-SOURCES = {
-    "src/lib.rt": """mod limits;
-
-pub fn first(n: u32) -> u32
-    ensures { result ≡ 1 }
-{
-    right(1)
-}
-
-pub fn second(n: u32) -> u32
-    ensures { result ≡ 2 }
-{
-    right(2)
-}
-
-pub fn third(n: u32) -> bool
-    ensures { result ≡ (n < 512) }
-{
-    n < MOST_LEVELS
-}
-""",
-    "src/limits.rt": """pub const MOST_LEVELS: u32 = 512;
-
-pub fn fourth() -> u32
-    ensures { result ≡ 4 }
-{
-    right(4)
-}
-""",
-}
+TEXT = (TESTS / "verdicts.txt").read_text()
+FILES = dict(re.findall(r"^== (\S+/\S+)\n((?:(?!==).*\n)+)", TEXT, re.M))
+SOURCES = {name: text for name, text in FILES.items() if name.startswith("src/")}
 # In place of the prover: it keeps the words of each of its runs, and judges the functions that are asked for, or all.
 PROVER = r"""#!/usr/bin/env python3
 import pathlib, re, sys
@@ -140,22 +103,21 @@ def check_trials(checks, tried, room):
 
 
 def main():
-    checks, tried = Tally(), module_of("wrong_bodies", TESTS / "wrong_bodies.py")
+    tried = module_of("wrong_bodies", TESTS / "wrong_bodies.py")
     places = {
         "read_name": tried.Place("reading", "reading::read_name", None),
         "encode_node": tried.Place("encode", "encode::encode_node", "encode"),
     }
-    with tempfile.TemporaryDirectory() as proofs:
-        os.makedirs(f"{proofs}/reading/read_name")
-        tried.write(f"{proofs}/reading/read_name/Answers.antt", ANSWERS)
-        for function, kind, words, printed in SAMPLE.findall(tried.read(TESTS / "verdicts.txt")):
+    with Tally() as checks:
+        proofs, answers = checks.room / "proofs", "reading/read_name/Answers.antt"
+        (proofs / answers).parent.mkdir(parents=True)
+        (proofs / answers).write_text(FILES[answers])
+        for function, kind, words, printed in SAMPLE.findall(TEXT):
             body = tried.WrongBody("made_up", [], {places[function]})
             verdict = tried.verdict_of(body, *tried.read_output(printed, proofs), printed)
             is_right = str(verdict.kind) == kind and words in verdict.reason
             checks.is_so(f"wanted {kind} with '{words}', got {verdict} of:\n{printed}", is_right)
-    with tempfile.TemporaryDirectory() as room:
-        check_trials(checks, tried, room)
-    checks.end()
+        check_trials(checks, tried, str(checks.room))
 
 
 if __name__ == "__main__":
