@@ -15,10 +15,12 @@ With --list the public functions are printed, each with the parts that call it. 
 import collections
 import re
 
-from tally import TOP, Tally, parser  # before the others, whose places it tells
+from tally import TOP, Tally, module_of, parser  # before the others, whose places it tells
 from wrong_bodies import BLOCK, FUNCTION, functions_of, sources_in
 
 TABLE = TOP / "tests/public_calls.txt"
+# It knows the crates.
+BUILD = module_of("build", TOP / "build")
 # The crates whose functions begin the calls of a part. The example call_list is no part of ./test.
 PARTS = {"rows": "acpi_cases", "runs": "acpidis_program", "tests": "library_tests", "pool": "pool_tests", "library": "acpidis_c"}
 NOT_SURFACE = {*PARTS.values(), "pool_bench", "call_list"}
@@ -33,13 +35,8 @@ Function = collections.namedtuple("Function", "crate type name trait public text
 
 def crates_below():
     """The crates of the repository that each stands on, itself among them."""
-    lines = [line.partition(":") for line in (TOP / "crates.txt").read_text().splitlines() if not line.startswith("#")]
-    direct = {head.split()[0]: words.split() for head, _, words in lines}
-
-    def below(name):
-        return {name}.union(*(below(it) for it in direct[name] if it in direct))
-
-    return {name: below(name) for name in direct}
+    names = re.findall(r"^(\w+).*:", (TOP / "crates.txt").read_text(), re.M)
+    return {name: set(BUILD.crates([name])) for name in names}
 
 
 def functions_in(crate):

@@ -1,6 +1,6 @@
 # shellcheck shell=sh
-# What the tests in sh and bash share: a folder of their own, in which they run, the counts of what passes and what fails, the
-# last line, and how they make commands and sets. The first row that fails ends a test that sets `stop`.
+# What the tests in sh and bash share: a folder of their own, in which they run, the demo, the counts of what passes and
+# what fails, the last line, and how they make commands. The first row that fails ends a test that sets `stop`.
 
 top=$(CDPATH='' cd -- "$(dirname -- "$0")/.." && pwd) || exit 1
 work=$(mktemp -d) || exit 1

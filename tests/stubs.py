@@ -117,7 +117,8 @@ def trials(room):
         yield Trial(f"tests/costs.py, a program that {what}", ["tests/costs.py"], placed(STUBS[what]))
     for script, what, file, text in EMPTIED:
         yield Trial(f"{script}, {what}", [script], {file: text})
-    yield Trial("tests/refusals.py, no C compiler", ["tests/refusals.py", "program"], placed(REFUSES), without_compilers(room))
+    words = ["tests/refusals.py", "program"]
+    yield Trial("tests/refusals.py, no C compiler", words, placed(REFUSES), without_compilers(room))
     yield Trial("tests/worked_runs.py, no examples", ["tests/worked_runs.py"], {"tests/worked_runs.txt": "", **placed(EMPTY)})
     runs = (TOP / RUNS).read_text()
     for what, (rule, other) in READINGS.items():

@@ -29,8 +29,8 @@ cp "$demo/dsdt.dat" sets/data
 echo 'no table' >sets/text/NOTES
 echo 'beside the sets' >sets/NOTES
 # shellcheck disable=SC2016
-shown=(plain 'two words' 'tab\x09here' 'new\x0Aline\x0A' 'back\x5Cslash' -dash '$(touch bad)' '*' ']' "quote'\"" '\xC3\xA9'
-    'not\xFFtext' %s @)
+shown=(plain 'two words' 'tab\x09here' 'new\x0Aline\x0A' 'back\x5Cslash' -dash '$(touch bad)' '*' ']' "quote'\""
+    '\xC3\xA9' 'not\xFFtext' %s @)
 {
     printf '%s\t0\t-\t1\t1\t0\n' data "${shown[@]/#/rack 1/}"
     printf '%s\t1\t%s\t-\t-\t-\n' empty NoDsdt text 'table "NOTES": Short'

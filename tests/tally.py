@@ -3,6 +3,7 @@
 from __future__ import annotations
 
 import argparse
+import importlib.machinery
 import importlib.util
 import itertools
 import os
@@ -26,8 +27,8 @@ class Stopped(Exception):
 
 
 class Tally:
-    """The checks of a test, which may stop at the first that fails. In a `with` they have a room for files of theirs, and
-    end with it."""
+    """The checks of a test, which may stop at the first that fails. In a `with` they have a room for files of theirs,
+    and end with it."""
 
     def __init__(self, stops: bool = False) -> None:
         self.stops, self.passed, self.failed = stops, 0, 0
@@ -75,10 +76,10 @@ def written(folder: pathlib.Path, files: dict[str, bytes]) -> pathlib.Path:
 
 def module_of(name: str, file: pathlib.Path) -> types.ModuleType:
     """A module of this name, whatever its file is called."""
-    spec = importlib.util.spec_from_file_location(name, file)
-    module = importlib.util.module_from_spec(spec)
+    loader = importlib.machinery.SourceFileLoader(name, str(file))
+    module = importlib.util.module_from_spec(importlib.util.spec_from_loader(name, loader))
     sys.modules[name] = module
-    spec.loader.exec_module(module)
+    loader.exec_module(module)
     return module
 
 

@@ -87,51 +87,28 @@ class Node(paths.Node):
         return self.is_predefined or bool(self.places)
 
 
-class Space:
+class Space(paths.Tree):
     """What the tables declared so far, as a tree."""
 
     def __init__(self, size):
-        self.root = Node(None, "")
+        super().__init__(Node)
         self.root.is_predefined = True
         self.steps = STEPS_PER_BYTE * size + 100_000
         for segment, kind in standard.PREDEFINED.items():
             node = self.root.child(segment)
             node.is_predefined, node.count = True, int(kind.partition(" ")[2] or 0)
 
-    def node(self, path):
-        """The node of a path of the program's text, made where it isn't there."""
-        return self.root.at(paths.parts(path))
-
     def start(self, scope, name):
-        """The node below which the segments of a name are placed; None above the root."""
-        if name.root:
-            return self.root
+        """Above the root there is no node."""
+        node = self.root if name.root else scope
         for _ in range(name.ups):
-            if scope.above is None:
-                return None
-            scope = scope.above
-        return scope
+            node = node and node.above
+        return node, name.segments, name.is_searched()
 
-    def place(self, scope, name):
-        node = self.start(scope, name)
-        return node and node.at(name.segments)
-
-    def candidates(self, scope, name):
-        """The nodes that are there at the paths that a name may mean, the nearest first."""
-        if name.is_searched():
-            while scope:
-                self.steps -= 1
-                if self.steps < 0:
-                    raise TooManySteps
-                node = scope.below.get(name.segments[0]) if scope.below else None
-                if node:
-                    yield node
-                scope = scope.above
-            return
-        node = self.start(scope, name)
-        node = node and node.there(name.segments)
-        if node:
-            yield node
+    def step(self):
+        self.steps -= 1
+        if self.steps < 0:
+            raise TooManySteps
 
     def find(self, scope, name):
         """What a name leads to: the first that is declared, else the first of an External; None where there is neither."""

@@ -10,7 +10,7 @@ from acpidis_tools.comparison import Said, text_of, texts_of
 from acpidis_tools.decoding import Decoder, flag_words, hardware_name
 from acpidis_tools.errors import Fault
 from acpidis_tools.identifiers import eisa_number
-from acpidis_tools.listing import Block, Dump, Line, Listing, Path, path_of, path_text
+from acpidis_tools.listing import HEADER, Block, Dump, Line, Listing, Path, path_of, path_text
 from acpidis_tools.names import FIELD_LISTS, PREDEFINED, Meaning, Names, Sort, name_of
 from acpidis_tools.resources import Descriptor
 from acpidis_tools.schema import COLUMNS
@@ -28,14 +28,6 @@ RAW, USED, HOW = COLUMNS["method"].index("is_raw"), COLUMNS["use"].index("name")
 TARGET = COLUMNS["name"].index("target")
 CONSTANT = [COLUMNS["name"].index(column) for column in ("kind", "stands", "times", "value")]
 DEVICES = ("Device", "Processor", "ThermalZone")
-HEADER = re.compile(
-    r'(?:Table|Root) "[^"]*"(?: "(?P<signature>[^"]*)" Length (?P<length>\d+))?(?: Revision (?P<before>\d+))?'
-    r'(?: Oem "(?P<oem>[^"]*)"(?: "(?P<table>[^"]*)" (?P<revision>[0-9A-F]{8}))?)?(?: Revision (?P<behind>\d+))?'
-    r'(?: Creator "(?P<creator>[^"]*)" (?P<creator_revision>[0-9A-F]{8}))?'
-    r'(?: Rsdt [0-9A-F]+(?: Length (?P<root_length>\d+) Xsdt [0-9A-F]+)?)?(?: At (?P<address>[0-9A-F]{16}))?(?P<bad> BadSum)?'
-)
-
-
 # What a field of a record has in hexadecimal; any other is decimal.
 HEXADECIMAL = ("Flags", "Address", "Controller", "AddressOverride", "Entry")
 UNKNOWN_RECORD = re.compile(r"Record (\d+) Length (\d+) ?(.*)")

@@ -6,7 +6,8 @@ import re
 from collections import defaultdict, deque
 from dataclasses import dataclass
 
-from acpidis_tools.listing import PATH, SEGMENT, Line, Listing, NoListing, path_of, path_text
+from acpidis_tools import aml
+from acpidis_tools.listing import PATH, Line, Listing, NoListing, path_of, path_text
 
 BODY = "acpidis: body "
 MOST_SHOWN = 80
@@ -58,11 +59,8 @@ def raw_bytes(line: Line) -> bytes:
 
 def spelled_name(code: bytes) -> str:
     """The name that stands at the front of the bytes (docs/names.md), and nothing where none does."""
-    prefix = re.match(rb"\\|\^*", code)[0]
-    rest = code[len(prefix):]
-    forms = {0x2E: (2, 1), 0x2F: (rest[1] if len(rest) > 1 else 0, 2)}
-    count, skipped = forms.get(rest[0] if rest else 0, (1, 0))
-    path = rest[skipped:skipped + 4 * count].decode("latin-1")
-    segments = [path[at:at + 4] for at in range(0, 4 * count, 4)]
-    is_name = segments and all(re.fullmatch(SEGMENT, segment) for segment in segments)
-    return prefix.decode() + ".".join(segments) if is_name else ""
+    try:
+        name, _ = aml.Reader(0, code, aml.Space(0)).name(0, len(code))
+    except aml.Stopped:
+        return ""
+    return str(name) if name.segments else ""

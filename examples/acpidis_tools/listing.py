@@ -17,6 +17,14 @@ PATH = rf"\\(?:{SEGMENT}(?:\.{SEGMENT})*)?"
 ROW = re.compile(rf"  ({PATH}) ([A-Z][A-Za-z]+(?: [0-7]| {PATH})?)( Maybe)?(?: Times ([1-9][0-9]{{0,8}}))?")
 RAW = re.compile(r"Raw \{(?:[0-9A-F]{2}(?:, [0-9A-F]{2})*)?\}")
 DUMP = re.compile(rf'(?:Table|Root) ({TEXT})(?: ({TEXT}) Length| Oem) .*')
+# The parts of the line of a dump, with a revision in front of the OEM or behind it
+HEADER = re.compile(
+    r'(?:Table|Root) "[^"]*"(?: "(?P<signature>[^"]*)" Length (?P<length>\d+))?(?: Revision (?P<before>\d+))?'
+    r'(?: Oem (?P<oems>"(?P<oem>[^"]*)"(?: "(?P<table>[^"]*)" (?P<revision>[0-9A-F]{8}))?))?'
+    r'(?: Revision (?P<behind>\d+))?(?: Creator (?P<creators>"(?P<creator>[^"]*)" (?P<creator_revision>[0-9A-F]{8})))?'
+    r'(?: (?P<leads>Rsdt [0-9A-F]+(?: Length (?P<root_length>\d+) Xsdt [0-9A-F]+)?))?'
+    r'(?P<rest>(?: At (?P<address>[0-9A-F]{16}))?(?: BadSum)?)'
+)
 BLOCK = re.compile(rf"DefinitionBlock \(({TEXT})\) {{")
 DEFINITION_BLOCKS = ('"DSDT"', '"SSDT"')
 

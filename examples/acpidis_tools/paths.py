@@ -40,6 +40,38 @@ class Node:
         return joined(reversed(segments))
 
 
+class Tree:
+    """The nodes of a set. By `start` a kind of names says below which node the segments of a name are placed, which may
+    be None, these segments, and whether they are looked for above."""
+
+    def __init__(self, make):
+        self.root = make(None, "")
+
+    def node(self, path):
+        """The node of a path of the program's text, made where it isn't there."""
+        return self.root.at(parts(path))
+
+    def place(self, scope, name):
+        """The node at which a name is placed, made where it isn't there."""
+        node, segments, _ = self.start(scope, name)
+        return node and node.at(segments)
+
+    def candidates(self, scope, name):
+        """The nodes that are there at the paths that a name may mean, the nearest first."""
+        node, segments, is_searched = self.start(scope, name)
+        while is_searched and node:
+            self.step()
+            if node.below and segments[0] in node.below:
+                yield node.below[segments[0]]
+            node = node.above
+        node = node and node.there(segments)
+        if node:
+            yield node
+
+    def step(self):
+        """A name is looked for one node further up."""
+
+
 def parts(path):
     return path[1:].split(".") if len(path) > 1 else []
 

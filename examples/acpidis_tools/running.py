@@ -74,20 +74,16 @@ class Node(paths.Node):
         self.is_maybe = False
 
 
-class Namespace:
+class Namespace(paths.Tree):
     """The paths of a text."""
 
     def __init__(self):
-        self.root = Node(None, "")
+        super().__init__(Node)
         for path, kind in PREDEFINED.items():
             self.node(path).kind = kind
 
-    def node(self, path):
-        """The node of a path, made where it isn't there."""
-        return self.root.at(paths.parts(path))
-
     def start(self, scope, name):
-        """The node below which the segments of a name are placed, its segments, and whether they are looked for above."""
+        """Above the root stands the root itself."""
         form = NAME.fullmatch(name)
         if not form:
             raise ValueError(f"{name[:MOST_SHOWN]!r} is no name")
@@ -97,22 +93,6 @@ class Namespace:
         for _ in range(prefix.count("^")):
             node = node.above or node
         return node, segments, prefix == "" and len(segments) == 1
-
-    def place(self, scope, name):
-        """The node at which a name is placed, made where it isn't there."""
-        node, segments, _ = self.start(scope, name)
-        return node.at(segments)
-
-    def candidates(self, scope, name):
-        """The nodes that are there at the paths at which a name may stand, the nearest first."""
-        node, segments, is_searched = self.start(scope, name)
-        while is_searched and node:
-            if node.below and segments[0] in node.below:
-                yield node.below[segments[0]]
-            node = node.above
-        node = node and node.there(segments)
-        if node:
-            yield node
 
     def add(self, row):
         """The node of a row of a listing."""

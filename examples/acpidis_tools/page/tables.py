@@ -5,27 +5,20 @@ from __future__ import annotations
 import re
 from html import escape
 
-from acpidis_tools.listing import TEXT, Dump
+from acpidis_tools.listing import HEADER, TEXT, Dump
 from acpidis_tools.page.sheet import Sheet, classed, counted
 
 ADDRESS_OF_ENTRY = re.compile(rf"(  Entry [0-9A-F]+) ({TEXT})")
-DUMP_FORM = re.compile(
-    rf'(?P<root>Root|Table) (?P<file>{TEXT})(?: (?P<signature>{TEXT}) Length (?P<length>\d+))?'
-    rf'(?: Revision (?P<before>\d+))?(?: Oem (?P<oem>{TEXT}(?: {TEXT} [0-9A-F]{{8}})?))?(?: Revision (?P<behind>\d+))?'
-    rf'(?: Creator (?P<creator>{TEXT} [0-9A-F]{{8}}))?'
-    rf'(?: (?P<leads>Rsdt [0-9A-F]+(?: Length \d+ Xsdt [0-9A-F]+)?))?(?P<rest>.*)'
-)
 HEADS = ("", "File", "Table", "Length", "Revision", "OEM", "Creator", "")
 
 
 def dump_cells(dump: Dump) -> list[str]:
-    form = DUMP_FORM.fullmatch(dump.text)
+    form = HEADER.fullmatch(dump.text)
     if not form:
         return [dump.text]
-    signature = (form["signature"] or '"RSD PTR "')[1:-1]
-    revision = form["before"] or form["behind"] or ""
-    texts = [form["length"], revision, form["oem"], form["creator"] or form["leads"], form["rest"].strip()]
-    return [form["file"][1:-1], signature, *(text or "" for text in texts)]
+    revision = form["before"] or form["behind"]
+    texts = [form["length"], revision, form["oems"], form["creators"] or form["leads"], form["rest"].strip()]
+    return [dump.file[1:-1], form["signature"] or "RSD PTR ", *(text or "" for text in texts)]
 
 
 class TableWriter:
