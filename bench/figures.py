@@ -148,9 +148,7 @@ def main():
     words.add_argument("--runs", type=int, default=RUNS)
     words.add_argument("--print", action="store_true")
     asked = words.parse_args()
-    program = shutil.which(os.path.abspath(asked.acpidis))
-    if program is None:
-        sys.exit(f"{asked.acpidis} isn't built: ./acpidis demo builds it")
+    program = shutil.which(os.path.abspath(asked.acpidis)) or sys.exit(f"{asked.acpidis} isn't built")
     if shutil.which("iasl") is None or not os.access(TIME, os.X_OK):
         sys.exit("iasl or GNU time isn't installed: apt-get install acpica-tools time")
     all_figures, loads, begun = [], [], measuring.processor_time()

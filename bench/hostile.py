@@ -110,9 +110,7 @@ def main():
     words.add_argument("--no-iasl", action="store_true")
     words.add_argument("--instructions", action="store_true")
     asked = words.parse_args()
-    program = shutil.which(os.path.abspath(asked.acpidis))
-    if program is None:
-        sys.exit(f"{asked.acpidis} isn't built")
+    program = shutil.which(os.path.abspath(asked.acpidis)) or sys.exit(f"{asked.acpidis} isn't built")
     compiler = None if asked.no_iasl else shutil.which("iasl")
     print(f"a load of {os.getloadavg()[0]:.1f} on {len(os.sched_getaffinity(0))} processors", flush=True)
     work = pathlib.Path(asked.keep or tempfile.mkdtemp())

@@ -34,7 +34,7 @@ from concurrent.futures.process import BrokenProcessPool
 from acpidis_tools import command
 from acpidis_tools.collecting import Collector, record_rows, table_rows
 from acpidis_tools.errors import Fault, read_errors
-from acpidis_tools.listing import Dump, Listing, NoListing, read_dumps, read_listing
+from acpidis_tools.listing import Dump, Listing, NoListing, file_name, read_dumps, read_listing
 from acpidis_tools.names import Names
 from acpidis_tools.schema import COLUMNS, INDEXES, OF_CODE, SCHEMA, insertion, shifted
 
@@ -96,7 +96,7 @@ def read_file(file: pathlib.Path) -> bytes:
 
 def file_of(folder: pathlib.Path, quoted: str) -> pathlib.Path | None:
     """The dump of a file's name in quotes, if it is a plain file of the folder."""
-    data = re.sub(rb"\\x([0-9A-F]{2})", lambda digits: bytes([int(digits[1], 16)]), quoted[1:-1].encode())
+    data = file_name(quoted)
     if data in (b"", b".", b"..") or b"/" in data or b"\0" in data:
         return None
     file = folder / os.fsdecode(data)

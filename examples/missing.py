@@ -20,7 +20,7 @@ import sys
 import tempfile
 
 from acpidis_tools import command, paths, running
-from acpidis_tools.errors import spelled_name
+from acpidis_tools.errors import name_in
 
 COUNTS = range(8)
 MOST_NAMES = 1000
@@ -41,20 +41,15 @@ class Body:
 
     def name(self):
         """The path of the name at the fault, as a line for --externals wants it; None where it leads above the root."""
-        prefix, segments = name_at(self.raw, self.at)
-        if prefix == "" and len(segments) == 1:
-            return paths.joined(segments)  # looked for in every scope above: the root's is found from each
-        scope = [] if prefix == "\\" else paths.parts(self.path)
-        left = len(scope) - prefix.count("^")
-        return paths.joined(scope[:left] + segments) if left >= 0 else None
-
-
-def name_at(raw, at):
-    """The prefix and the segments of the name that stands there."""
-    form = running.NAME.fullmatch(spelled_name(raw[at:]))
-    if not form[0]:
-        raise running.Unusable(f"no name stands at {at} of a body that wants one: is this another version of acpidis?")
-    return form[1], form[2].split(".") if form[2] else []
+        name = name_in(self.raw[self.at :])
+        if name is None:
+            what = f"no name stands at {self.at} of a body that wants one: is this another version of acpidis?"
+            raise running.Unusable(what)
+        if name.is_searched():
+            return paths.joined(name.segments)  # looked for in every scope above: the root's is found from each
+        scope = [] if name.root else paths.parts(self.path)
+        left = len(scope) - name.ups
+        return paths.joined(scope[:left] + name.segments) if left >= 0 else None
 
 
 def bodies_of(run):

@@ -18,6 +18,7 @@ import sys
 import tempfile
 
 from acpidis_tools import aml, command, running
+from acpidis_tools.listing import file_name
 
 HEADER, MOST_BYTES, SHOWN_BYTES, MOST_SHOWN = 36, 16_777_216, 16, 5
 BLOCKS = (b"DSDT", b"SSDT")
@@ -49,16 +50,10 @@ class Refusal:
     def __init__(self, line):
         form = LINE.fullmatch(line)
         self.line = line.removeprefix("acpidis: ")
-        self.file = unquoted(form["file"]) if form and form["file"] is not None else None
+        self.file = os.fsdecode(file_name(form["file"])) if form and form["file"] is not None else None
         self.word = form["word"] if form else ""
         self.at = int(form["at"]) if form and form["at"] else None
         self.path = form["path"] if form else None
-
-
-def unquoted(text):
-    """The file's name that the program printed in quotes."""
-    data = re.sub(rb"\\x([0-9A-F]{2})", lambda digits: bytes([int(digits[1], 16)]), text.encode())
-    return os.fsdecode(data)
 
 
 def shown_name(name):
@@ -107,7 +102,8 @@ def load_order(program, folder):
         done = subprocess.run([program, "--any-sum", "--", room], stdin=subprocess.DEVNULL, capture_output=True, check=False)
         if done.returncode == 0:
             found = re.findall(r'^DefinitionBlock \("(.*)"\) \{$', done.stdout.decode(), re.MULTILINE)
-    return list(map(unquoted, found)) or [name for name in names if read_file(folder, name).startswith(BLOCKS)]
+    loaded = [os.fsdecode(file_name(shown)) for shown in found]
+    return loaded or [name for name in names if read_file(folder, name).startswith(BLOCKS)]
 
 
 def read_file(folder, name):

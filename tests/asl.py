@@ -505,39 +505,17 @@ def check_chain(checks):
         checks.is_so(f"{name} is read", "BBBB" in listed(checks.room / f"{name}.d"))
 
 
-# What show.py shows of a path of the made-up board.
-SHOWN = [
-    ("smi", """DefinitionBlock ("dsdt.dat") {
-  Scope (\\_SB_) {
-    Device (PCI0) {
-      Method (SMI_, 2, Serialized, 0) {
-        Store (Arg1, APMD)
-        Store (Arg0, APMC)
-        Return (APMD)
-      }
-"""),
-    ("\\_SB.PCI0.APMD", """DefinitionBlock ("dsdt.dat") {
-  Scope (\\_SB_) {
-    Device (PCI0) {
-      Field (SMIP, 0x01) {
-        APMD, 8
-"""),
-    ("\\DBGP", """DefinitionBlock ("ssdt1.dat") {
-  OperationRegion (DBGP, 0x01, 0x80, One)
-"""),
-]  # fmt: skip
-
-
 def check_show(checks):
     """What is declared at a path, or at paths that end so."""
     place = written(checks.room / "show", board.VERSIONS["first"])
     text = checks.text("show.text", listed(place))
-    for path, wanted in SHOWN:
+    shown = re.findall(r"^== (\S+)\n((?:(?!==).*\n)+)", (TOP / "tests/shown.txt").read_text(), re.M)
+    for path, wanted in shown:
         checks.says(f"show {path}", [SHOW, text, path], 0, "", wanted)
     heads = checks.run(SHOW, text, "_hid").stdout.count("Name (_HID, ")
     checks.is_same("each _HID", heads, text.read_text().count("Name (_HID, "))
-    shown = checks.run(SHOW, text, "EC0").stdout
-    checks.is_so("a device whole", shown.count("{") == shown.count("}") + 3 and "Method (_Q13" in shown)
+    whole = checks.run(SHOW, text, "EC0").stdout
+    checks.is_so("a device whole", whole.count("{") == whole.count("}") + 3 and "Method (_Q13" in whole)
     checks.says("no such path", [SHOW, text, "\\SMI_"], 1, f"show: {str(text)!r} declares no such path\n")
     checks.is_same("no path", checks.run(SHOW, text, "1").returncode, 2)
     ran = checks.run(SHOW, place / "dsdt.dat", "SMI")

@@ -57,10 +57,10 @@ def raw_bytes(line: Line) -> bytes:
     return bytes.fromhex("".join(line.pieces[2:]).strip(" {}").replace(",", ""))
 
 
-def spelled_name(code: bytes) -> str:
+def name_in(code: bytes) -> aml.Name | None:
     """The name that stands at the front of the bytes (docs/names.md), and nothing where none does."""
     try:
         name, _ = aml.Reader(0, code, aml.Space(0)).name(0, len(code))
     except aml.Stopped:
-        return ""
-    return str(name) if name.segments else ""
+        return None
+    return name if name.segments else None

@@ -41,6 +41,11 @@ def path_of(text: str) -> Path:
     return tuple(text[1:].split(".")) if len(text) > 1 else ROOT
 
 
+def file_name(shown: str) -> bytes:
+    """The name of the file that is shown so, in quotes or without."""
+    return re.sub(rb"\\x([0-9A-F]{2})", lambda digits: bytes([int(digits[1], 16)]), shown.strip('"').encode())
+
+
 def path_text(path: Path) -> str:
     return "\\" + ".".join(path)
 

@@ -26,11 +26,15 @@ UPDATE_RULES = ("Preserve", "WriteAsOnes", "WriteAsZeros")
 # 6.3.7, the bits of _STA
 STATUS_BITS = ("present", "enabled", "shown", "functioning", "battery present")
 
+
+def tables_in(file):
+    """The tables of a text beside this one, each by the first words of its lines."""
+    for table in (pathlib.Path(__file__).parent / file).read_text().split("\n\n"):
+        yield dict(line.split(" ", 1) for line in table.splitlines() if not line.startswith("#"))
+
+
 # A table by the names of predefined objects, one by the identifiers of devices, and one by UUIDs, each with some words.
-PREDEFINED_NAMES, DEVICE_NAMES, UUID_NAMES = (
-    dict(line.split(" ", 1) for line in table.splitlines() if not line.startswith("#"))
-    for table in (pathlib.Path(__file__).parent / "standard.txt").read_text().split("\n\n")
-)
+PREDEFINED_NAMES, DEVICE_NAMES, UUID_NAMES = tables_in("standard.txt")
 PREDEFINED_NAMES.update((f"_AC{digit}", PREDEFINED_NAMES["_ACx"]) for digit in range(10))
 PREDEFINED_NAMES.update((f"_AL{digit}", PREDEFINED_NAMES["_ALx"]) for digit in range(10))
 

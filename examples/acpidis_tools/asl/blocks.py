@@ -23,10 +23,6 @@ class Table:
         self.number = number
         self.file, self.signature, self.revision, self.oem, self.oem_table, self.oem_revision = form.groups()
 
-    def name(self):
-        """The name of the dump, in bytes."""
-        return re.sub(rb"\\x(..)", lambda found: bytes.fromhex(found[1].decode()), self.file[1:-1].encode())
-
     def head(self, signature, tell):
         """The line that begins its definition block."""
         oem, oem_table = (terms.quoted(re.sub(r"(\\x00)+$", "", it[1:-1]), tell) for it in (self.oem, self.oem_table))

@@ -3,6 +3,7 @@
 import os
 
 from acpidis_tools import aml, command
+from acpidis_tools.listing import file_name
 
 LIMITS = (1 << 6, 1 << 12, 1 << 20, 1 << 28)
 
@@ -70,8 +71,7 @@ class Reader(aml.Reader):
 def told(folder, blocks):
     """A line for each dump of the folder that has a length or a name in another form than the shortest."""
     for block in blocks:
-        file = block.table.name()
-        path = os.path.join(os.fsencode(folder), file)
+        path = os.path.join(os.fsencode(folder), file_name(block.table.file))
         dump = command.read(path)
         code = dump[36 : int.from_bytes(dump[4:8], "little")]
         reader = Reader(code, block.said, block.bodies)

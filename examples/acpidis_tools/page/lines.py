@@ -6,7 +6,7 @@ from __future__ import annotations
 import re
 from html import escape
 
-from acpidis_tools.errors import Fault, raw_bytes, spelled_name
+from acpidis_tools.errors import Fault, name_in, raw_bytes
 from acpidis_tools.listing import Block, Line, path_text
 from acpidis_tools.names import Meaning, Names, Sort, Uses, is_name
 from acpidis_tools.page.packing import BETWEEN, chunk_html
@@ -71,7 +71,7 @@ def raw_html(line: Line, fault: Fault | None) -> str:
         at = 2 + 4 * (fault.at if fault.at is not None else len(code))
         if at < len(shown) - 1:
             shown = f"{shown[:at]}<mark>{shown[at:at + 2]}</mark>{shown[at + 2:]}"
-            name = spelled_name(code[fault.at:]) if fault.word == "UnknownName" else ""
+            name = name_in(code[fault.at:]) if fault.word == "UnknownName" else None
             said += f", {name}" if name else ""
     return f"{'  ' * line.depth}<b>Raw</b>{shown}<em class=note>{said}</em>"
 
