@@ -22,10 +22,8 @@ from typing import TypeVar
 
 from acpidis_tools import command
 from acpidis_tools.comparison import compare
-from acpidis_tools.decoding import Decoder
 from acpidis_tools.errors import read_errors
-from acpidis_tools.listing import NoListing, read_listing
-from acpidis_tools.names import Names
+from acpidis_tools.listing import NoListing
 from acpidis_tools.page.markup import page
 from acpidis_tools.page.sheet import LONG_TEXT, Sheet
 
@@ -54,9 +52,7 @@ def of_file(file: str, make: Callable[[bytes], Made], most: int, what: str = "is
 
 
 def sheet_in(text: bytes) -> Sheet:
-    listing = read_listing(text)
-    names = Names(listing)
-    return Sheet(listing, names, Decoder(listing, names), is_packed=len(text) > LONG_TEXT)
+    return Sheet.of(text, len(text) > LONG_TEXT)
 
 
 def name_of(file: str) -> str:

@@ -18,11 +18,9 @@ import subprocess
 
 # Before the others, whose places it tells
 from tally import TOP, Tally, module_of, on_full_disk, parser, run_script, timed, written
-from acpidis_tools.decoding import Decoder
 from acpidis_tools.errors import read_errors
-from acpidis_tools.listing import NoListing, read_listing
+from acpidis_tools.listing import NoListing
 from acpidis_tools.page.markup import page
-from acpidis_tools.names import Names
 from running import Options, run_folder
 from acpidis_tools.page.sheet import Sheet
 from telling import HOSTILE_FILES, RUNS_FILES
@@ -187,10 +185,8 @@ def check_mutations(checks: Tally, room: pathlib.Path, count: int) -> None:
         errors = mutated(outcome.err.splitlines(), dice).encode("ascii", "replace")
         try:
             facts_script.facts_of(text, errors)
-            listing = read_listing(text)
-            names = Names(listing)
-            sheet = Sheet(listing, names, Decoder(listing, names), is_packed=number % 3 == 0)
-            sheet.faults = read_errors(errors, listing)
+            sheet = Sheet.of(text, is_packed=number % 3 == 0)
+            sheet.faults = read_errors(errors, sheet.listing)
             page(sheet)
         except NoListing:
             pass

@@ -22,12 +22,9 @@ from acpidis_tools.page import lines as lines_module
 import pages
 from acpidis_tools.page import tree as tree_module
 from acpidis_tools.comparison import differences
-from acpidis_tools.decoding import Decoder
 from acpidis_tools.errors import read_errors
-from acpidis_tools.listing import read_listing
 from made_aml import method, table
 from acpidis_tools.page.markup import page
-from acpidis_tools.names import Names
 from page_html import Read, read_page
 from running import REFUSED, Options, Outcome, run_folder
 from acpidis_tools.page.sheet import Sheet
@@ -67,10 +64,8 @@ class Checks(Tally):
 
     def check_packed(self, what: str, read: Read, outcome: Outcome) -> None:
         """The page of the same listing with packed parts has the same names, lines, uses and rows."""
-        listing = read_listing(outcome.out.encode())
-        names = Names(listing)
-        sheet = Sheet(listing, names, Decoder(listing, names), is_packed=True)
-        sheet.faults = read_errors(outcome.err.encode(), listing) if outcome.err else {}
+        sheet = Sheet.of(outcome.out.encode(), is_packed=True)
+        sheet.faults = read_errors(outcome.err.encode(), sheet.listing) if outcome.err else {}
         other = read_page(page(sheet))
         for part in ("names", "lines", "uses", "rows", "notes", "says"):
             self.is_same(f"the {part} of {what}, packed", getattr(other, part), getattr(read, part))

@@ -8,7 +8,7 @@ from typing import Optional
 from acpidis_tools.comparison import Comparison
 from acpidis_tools.decoding import Decoder
 from acpidis_tools.errors import Fault
-from acpidis_tools.listing import Line, Listing, NoListing, Path, path_of, path_text
+from acpidis_tools.listing import Line, Listing, NoListing, Path, path_of, path_text, read_listing
 from acpidis_tools.names import PREDEFINED, Meaning, Names, Sort
 
 # The page of a longer listing has its lines packed.
@@ -29,6 +29,13 @@ class Sheet:
     is_packed: bool = False
     shown: Optional[set[int]] = None
     paths: Optional[set[Path]] = None
+
+    @classmethod
+    def of(cls, text: bytes, is_packed: bool = False) -> Sheet:
+        """That of a listing's text."""
+        listing = read_listing(text)
+        names = Names(listing)
+        return cls(listing, names, Decoder(listing, names), is_packed=is_packed)
 
     def mark(self, path: Optional[Path]) -> str:
         return self.comparison.mark(path) if self.comparison and path is not None else ""
