@@ -16,7 +16,7 @@ import subprocess
 # Before the others, whose places it tells
 from tally import PROGRAM, Tally, parser, written
 import hostile_shapes as shapes
-from running import Options, Outcome, refused, run_folder
+from running import DONE, Options, Outcome, refused, run_folder
 
 SETS = {
     "ifs": lambda: shapes.indented(2_000, 508),
@@ -51,8 +51,11 @@ def limited(option, limit, *words):
 
 def least_memory(program):
     """The least memory with which the program starts at all: below it the system doesn't load it."""
-    limits = range(LEAST, MOST_TO_START + 1, 500)
-    return next((limit for limit in limits if "acpidis" in limited("-v", limit, program, "--version").out), None)
+    for limit in range(LEAST, MOST_TO_START + 1, 500):
+        outcome = limited("-v", limit, program, "--version")
+        if outcome.status == DONE and "acpidis" in outcome.out:
+            return limit
+    return None
 
 
 class Checks(Tally):
