@@ -21,10 +21,7 @@ def shown(value):
 
 
 def main():
-    words = command.parser(__doc__)
-    words.add_argument("facts", metavar="FACTS")
-    words.add_argument("sql", metavar="SQL")
-    asked = words.parse_args()
+    asked = command.parser(__doc__, "FACTS", "SQL").parse_args()
     sql = sys.stdin.read() if asked.sql == "-" else asked.sql
     try:
         connection = sqlite3.connect(pathlib.Path(asked.facts).absolute().as_uri() + "?mode=ro", uri=True)

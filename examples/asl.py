@@ -90,13 +90,11 @@ def write(folder, made, is_edited):
 
 
 def main():
-    words = command.parser(__doc__)
+    words = command.parser(__doc__, "LISTING", "OUT")
     kinds = words.add_mutually_exclusive_group()
     kinds.add_argument("--edit", action="store_true")
     kinds.add_argument("--method", metavar="PATH", type=command.path_of)
     words.add_argument("--tables", metavar="FOLDER")
-    words.add_argument("listing", metavar="LISTING")
-    words.add_argument("out", metavar="OUT")
     asked = words.parse_args()
     with command.reading("asl", NoListing, f"{asked.listing!r}: "):
         blocks, made = of_listing(asked)

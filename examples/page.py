@@ -83,8 +83,7 @@ def sheet_of(asked: argparse.Namespace) -> Sheet:
 
 
 def main() -> None:
-    words = command.parser(__doc__)
-    words.add_argument("listing", metavar="LISTING")
+    words = command.parser(__doc__, "LISTING")
     words.add_argument("--errors", metavar="FILE")
     words.add_argument("--compare", metavar="OTHER")
     words.add_argument("--name", metavar="NAME")

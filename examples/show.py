@@ -55,8 +55,7 @@ def wanted(word):
 
 
 def main():
-    words = command.parser(__doc__)
-    words.add_argument("listing", metavar="LISTING")
+    words = command.parser(__doc__, "LISTING")
     words.add_argument("path", metavar="PATH", type=wanted)
     asked = words.parse_args()
     reader = Reader(lambda table, space: ShownBlock(table, space, asked.path))

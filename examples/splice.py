@@ -157,12 +157,10 @@ def entry(number, name, mode, data):
 
 
 def main():
-    words = command.parser(__doc__)
+    words = command.parser(__doc__, "DUMP", "NEW")
     words.add_argument("--oem-revision", action="store_true")
     words.add_argument("--initrd", metavar="FILE")
     words.add_argument("-o", "--output", metavar="PATCHED")
-    words.add_argument("dump", metavar="DUMP")
-    words.add_argument("new", metavar="NEW")
     words.add_argument("paths", metavar="PATH", nargs="+", type=command.path_of)
     asked = words.parse_args()
     if sys.stdout.isatty() and not asked.output:

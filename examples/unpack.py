@@ -163,10 +163,7 @@ def write(folder, tables):
 
 
 def main():
-    words = command.parser(__doc__)
-    words.add_argument("file", metavar="FILE")
-    words.add_argument("folder", metavar="FOLDER")
-    asked = words.parse_args()
+    asked = command.parser(__doc__, "FILE", "FOLDER").parse_args()
     with command.reading("unpack", Refused, f"{asked.file!r}: "):
         write(asked.folder, tables_of(pathlib.Path(asked.file).read_bytes()))
 

@@ -18,18 +18,20 @@ NO_LISTING = ("--help", "--version", "--check")
 SEGMENT = re.compile(r"[A-Z_][A-Z0-9_]{0,3}")
 
 
-def parser(about, **more):
-    """The command line of a script, whose help is what its first lines say. Where it is installed it has another name there."""
+def parser(about, *names, **more):
+    """The command line of a script, with words of these names, whose help is what its first lines say. Where it is
+    installed it has another name there."""
     made = argparse.ArgumentParser(description=about, formatter_class=argparse.RawDescriptionHelpFormatter, **more)
     if made.prog.startswith("acpidis-"):
         made.description = re.sub(r"(?:python3 )?examples/(\w+)\.py", r"acpidis-\1", about)
+    for name in names:
+        made.add_argument(name.lower(), metavar=name)
     return made
 
 
 def folder_parser(about, own=""):
     """That of a script that reads a folder, with options of its own."""
-    words = parser(about, usage=f"%(prog)s {own}[OPTION..] FOLDER")
-    words.add_argument("folder", metavar="FOLDER")
+    words = parser(about, "FOLDER", usage=f"%(prog)s {own}[OPTION..] FOLDER")
     words.set_defaults(options={})
     return words
 
