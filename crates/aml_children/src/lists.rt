@@ -7,31 +7,23 @@ use crate::children::Child;
 use crate::trees::Tree;
 use aml_names::Seg;
 use std::alloc::{AllocError, Global};
-use std::cmp::Ordering;
 
-/// So many children are kept in a list; more are put faster into a tree.
+/// So many children are kept in a list, which is searched from its front; more are found faster in a tree.
 pub(crate) const MOST: usize = 32;
 
-/// The node of a segment, which is looked for in the half that may have it.
+/// The node of a segment.
 pub(crate) fn node_in(children: &[Child], seg: Seg) -> Option<usize>
-    requires { Rise children.now }
     ensures { result ≡ child_in children.now seg }
 {
-    let mut left = children;
-    'halves: loop {
-        let (front, behind) = left.split_at(left.len() / 2);
-        match behind {
-            [] => return None,
-            [middle, rest @ ..] => match seg.cmp(&middle.seg) {
-                Ordering::Less => left = front,
-                Ordering::Equal => return Some(middle.node),
-                Ordering::Greater => left = rest,
-            },
+    for child in children {
+        if seg.cmp(&child.seg).is_eq() {
+            return Some(child.node);
         }
     }
+    None
 }
 
-/// What `node_in` answers, by a look at each, and the comparisons made.
+/// What `node_in` answers, and the comparisons made.
 pub(crate) fn find_in(children: &[Child], seg: Seg) -> (Option<usize>, u128)
     requires { length children.now ≤ 32 }
     ensures node { result.0 ≡ child_in children.now seg }
