@@ -1,4 +1,4 @@
-use Rattle.std.proofs.Common.{◌≡◌, nat_le, length, true, false, refl, inr, arith}
+use Rattle.std.proofs.Common.{◌≡◌, nat_le, length, true, false, arith, rules}
 use Rattle.std.proofs.lemmas.Bool.Decides.{nat_tests}
 use Rattle.aml_load.specs.Declaring.{most_methods, method_at}
 use Rattle.aml_load.specs.Loading.{methods_of}
@@ -10,7 +10,7 @@ unfolding method_at
 returns-then-len-ge-MAX_METHODS-clause-walks c l h =
     let full : nat_le most_methods (length (methods_of l.entries)) ≡ true =
     grind (arith, nat_tests, as_many_held c.args.self.now l h, c.len.ensures, c.if-len-ge-MAX_METHODS.true) in
-    inr (rw full refl)
+    rw full (search rules)
 
 pub returns-clause-walks : goal.returns-clause-walks
 unfolding method_at
