@@ -15,7 +15,7 @@ use Rattle.aml_names.specs.declared.segments.Seg.{Seg}
 use Rattle.aml_names.specs.declared.names.Name.{Name}
 use Rattle.aml_names.specs.Names.{placed}
 use Rattle.aml_names.specs.Searching.{candidates, upward, is_single}
-use Rattle.aml_namespace.specs.declared.kinds.Kind.{Kind}
+use Rattle.aml_namespace.specs.Kinds.{Kind}
 use Rattle.aml_namespace.specs.declared.kinds.Kind.TheVariants.{Alias}
 use Rattle.aml_namespace.specs.Namespace.{Entry, Body, declares, external, given, Namespace, namespace_of, declared_at}
 use Rattle.aml_namespace.specs.Namespace.{same_path, greater, outs_at, given_at, kind_at, decides, is_outside, found}

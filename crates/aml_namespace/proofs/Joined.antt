@@ -9,7 +9,8 @@ use Rattle.std.proofs.lemmas.List.{append-nil, map-append}
 use Rattle.std.proofs.lemmas.Map.Views.{exact_unsigned_eq}
 use Rattle.std.specs.List.{list_all, list_any}
 use Rattle.std.specs.Option.{option_or}
-use Rattle.aml_namespace.specs.declared.kinds.Kind.{Kind}
+use Rattle.aml_namespace.specs.Kinds.{Kind}
+use Rattle.aml_namespace.specs.declared.kinds.Kind.{Kind as KindOf}
 use Rattle.aml_namespace.specs.declared.kinds.Kind.TheVariants.{Method, Alias}
 use Rattle.aml_namespace.specs.declared.tallies.Counts.{Counts}
 use Rattle.aml_namespace.specs.declared.tallies.Counts.TheVariants.{Nothing, One, Several}
@@ -111,7 +112,7 @@ chosen_met (n ∷ ns) differ unmet = ap (λ b. option_or (cond b (Some n) None) 
 
 -- ---- The counts of kinds.
 
-any_more : (f : Kind → Bool) (ks : List Kind) (k : Kind) → list_any f (ks ++ k ∷ []) ≡ (list_any f ks || f k)
+any_more : {T : Type 0} (f : KindOf T → Bool) (ks : List (KindOf T)) (k : KindOf T) → list_any f (ks ++ k ∷ []) ≡ (list_any f ks || f k)
 any_more f [] k = by (f k)
   where
     by : (b : Bool) → (b || false) ≡ b
@@ -123,7 +124,7 @@ any_more f (l ∷ ks) k = ap (λ b. f l || b) (any_more f ks k) ∙ by (f l) (li
     by true b c = refl
     by false b c = refl
 
-all_more : (f : Kind → Bool) (ks : List Kind) (k : Kind) → list_all f (ks ++ k ∷ []) ≡ (list_all f ks && f k)
+all_more : {T : Type 0} (f : KindOf T → Bool) (ks : List (KindOf T)) (k : KindOf T) → list_all f (ks ++ k ∷ []) ≡ (list_all f ks && f k)
 all_more f [] k = by (f k)
   where
     by : (b : Bool) → (b && true) ≡ b
@@ -135,7 +136,7 @@ all_more f (l ∷ ks) k = ap (λ b. f l && b) (all_more f ks k) ∙ by (f l) (li
     by true b c = refl
     by false b c = refl
 
-pub tally_more : (ks : List Kind) (k : Kind) (t : Tally) → t ≡ tally_of ks
+pub tally_more : {T : Type 0} (ks : List (KindOf T)) (k : KindOf T) (t : Tally) → t ≡ tally_of ks
     → tally_of (ks ++ k ∷ []) ≡ record {
       counts = joined t.counts (One (own_count k));
       aliased = t.aliased || is_alias k;

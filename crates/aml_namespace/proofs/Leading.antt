@@ -10,7 +10,7 @@ use Rattle.std.specs.List.{AllByRecursion, find}
 use Rattle.std.specs.Option.{option_or}
 use Rattle.aml_names.specs.declared.segments.Seg.{Seg}
 use Rattle.aml_names.specs.Searching.{candidates}
-use Rattle.aml_namespace.specs.declared.kinds.Kind.{Kind}
+use Rattle.aml_namespace.specs.Kinds.{Kind}
 use Rattle.aml_namespace.specs.Predefined.{predefined}
 use Rattle.aml_namespace.specs.Namespace.{Entry, declares, external, given}
 use Rattle.aml_namespace.specs.Namespace.{namespace_of, same_path, kind_at, is_outside}

@@ -13,7 +13,7 @@ use Rattle.std.specs.FinSet as set
 use Rattle.aml_names.specs.declared.segments.Seg.{Seg}
 use Rattle.aml_names.specs.Paths.{PathSet}
 use Rattle.aml_names.specs.Searching.{upward}
-use Rattle.aml_namespace.specs.declared.kinds.Kind.{Kind}
+use Rattle.aml_namespace.specs.Kinds.{Kind}
 use Rattle.aml_namespace.specs.declared.tallies.Counts.{Counts}
 use Rattle.aml_namespace.specs.declared.tallies.Counts.TheVariants.{One}
 use Rattle.aml_namespace.specs.Predefined.{predefined}

@@ -5,7 +5,7 @@ use Rattle.std.proofs.Common.{◌≡◌, ℕ, zero, suc, List, [], ◌∷◌, ma
 use Rattle.std.proofs.Common.{subst, ◌∙◌}
 use Rattle.std.proofs.lemmas.Option.{same_Some}
 use Rattle.aml_names.specs.declared.segments.Seg.{Seg}
-use Rattle.aml_namespace.specs.declared.kinds.Kind.{Kind}
+use Rattle.aml_namespace.specs.Kinds.{Kind}
 use Rattle.aml_namespace.specs.Known.{AreRows, Known, Declared, StandsFor, declaration_at, declared_kind, row_of}
 use Rattle.aml_namespace.specs.Namespace.{Entry, declared_at}
 use Rattle.aml_namespace.specs.Runs.{surely_declared, times_at}

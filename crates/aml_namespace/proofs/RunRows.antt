@@ -5,7 +5,7 @@ use Rattle.aml_names.specs.declared.segments.Seg.{Seg}
 use Rattle.aml_names.specs.declared.names.Name.{Name as Spelled}
 use Rattle.aml_names.specs.declared.names.NameForm.TheVariants.{One}
 use Rattle.aml_names.specs.Paths.{PathSet}
-use Rattle.aml_namespace.specs.declared.kinds.Kind.{Kind}
+use Rattle.aml_namespace.specs.Kinds.{Kind}
 use Rattle.aml_namespace.specs.declared.kinds.Kind.TheVariants.{Name, Method, Alias, Device}
 use Rattle.aml_namespace.specs.Namespace.{Entry, declares, external, given}
 use Rattle.aml_namespace.specs.Known.{declaration_at, once, again, row_of}

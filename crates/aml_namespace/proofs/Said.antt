@@ -6,7 +6,7 @@ use Rattle.std.proofs.Common.{IfSome, is_some, refl, sym, ap, ◌∙◌, arith}
 use Rattle.std.proofs.lemmas.Bool.Decides.{nat_tests}
 use Rattle.std.specs.List.{list_all, list_any}
 use Rattle.aml_names.specs.declared.segments.Seg.{Seg}
-use Rattle.aml_namespace.specs.declared.kinds.Kind.{Kind}
+use Rattle.aml_namespace.specs.Kinds.{Kind}
 use Rattle.aml_namespace.specs.declared.kinds.Kind.TheVariants.{Scope, Name, Method, Mutex}
 use Rattle.aml_namespace.specs.Predefined.{is_one_of, predefined}
 use Rattle.aml_namespace.specs.Known.{Declared, kinds_by, sure_by}
@@ -58,13 +58,13 @@ scope_said d standing = by d.sure standing
     by false (Some k) = refl
 
 -- no predefined path is an Alias
-pub no_alias : (p : List Seg) → IfSome (predefined p) (λ k. is_alias k ≡ false)
+pub no_alias : (p : List Seg) → IfSome (predefined p) (λ (k : Kind). is_alias k ≡ false)
 no_alias [] = refl
 no_alias (s ∷ []) = by (is_one_of ("_GPE" ∷ "_PR_" ∷ "_SB_" ∷ "_SI_" ∷ "_TZ_" ∷ []) s) (is_one_of ("_GL_" ∷ []) s)
     (is_one_of ("_OS_" ∷ "_REV" ∷ []) s) (is_one_of ("_OSI" ∷ []) s)
   where
     by : (a b c d : Bool)
-        → IfSome (cond a (Some Scope) (cond b (Some Mutex) (cond c (Some Name) (cond d (Some (Method 1)) None)))) (λ k. is_alias k ≡ false)
+        → IfSome (cond a (Some Scope) (cond b (Some Mutex) (cond c (Some Name) (cond d (Some (Method 1)) None)))) (λ (k : Kind). is_alias k ≡ false)
     by true b c d = refl
     by false true c d = refl
     by false false true d = refl

@@ -12,7 +12,7 @@ use Rattle.std.specs.FinSet as set
 use Rattle.aml_names.specs.declared.segments.Seg.{Seg}
 use Rattle.aml_names.specs.Paths.{PathSet, path_cmp, exact_paths}
 use Rattle.aml_names.specs.Searching.{candidates}
-use Rattle.aml_namespace.specs.declared.kinds.Kind.{Kind}
+use Rattle.aml_namespace.specs.Kinds.{Kind}
 use Rattle.aml_namespace.specs.declared.kinds.Kind.TheVariants.{Method, Alias}
 use Rattle.aml_namespace.specs.Predefined.{predefined}
 use Rattle.aml_namespace.specs.Namespace.{Entry, declares, external, given}

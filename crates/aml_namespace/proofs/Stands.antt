@@ -10,7 +10,7 @@ use Rattle.std.proofs.lemmas.Map.Views.{tells_apart}
 use Rattle.aml_names.specs.declared.segments.Seg.{Seg}
 use Rattle.aml_names.specs.declared.names.Name.{Name}
 use Rattle.aml_names.specs.Paths.{PathSet, path_cmp, paths_total, exact_paths}
-use Rattle.aml_namespace.specs.declared.kinds.Kind.{Kind}
+use Rattle.aml_namespace.specs.Kinds.{Kind}
 use Rattle.aml_namespace.specs.Namespace.{namespace_of, kind_at, count_at, found, Entry, Body, declares, external}
 use Rattle.aml_namespace.specs.Namespace.{given}
 use Rattle.aml_namespace.specs.Namespace.{declared_at, outs_at, given_at, same_path}

@@ -8,7 +8,8 @@ use Rattle.std.specs.Prelude.{true, false, ◌==◌}
 use Rattle.std.specs.Coded.{Coded, code_by, coded×, coded_ℕ, coded_list, coded_bool}
 use Rattle.aml_names.specs.declared.segments.Seg.{Seg}
 use Rattle.aml_names.specs.Paths.{coded_path, path_cmp}
-use Rattle.aml_namespace.specs.declared.kinds.Kind.{Kind}
+use Rattle.aml_namespace.specs.Kinds.{Kind}
+use Rattle.aml_namespace.specs.declared.kinds.Kind.{Kind as KindOf}
 use Rattle.aml_namespace.specs.declared.kinds.Kind.TheVariants.{Scope, Name, Method, Alias, Device, Processor}
 use Rattle.aml_namespace.specs.declared.kinds.Kind.TheVariants.{PowerResource, ThermalZone, Mutex, Event, Region}
 use Rattle.aml_namespace.specs.declared.kinds.Kind.TheVariants.{DataRegion, Field, BufferField}
@@ -22,11 +23,11 @@ use Rattle.std.specs.declared.cmp.Ordering.TheVariants.{Less}
 
 -- ---- A stepping stone of the proofs: kinds as numbers and paths, so that they can stand in a finite map.
 
-abbrev pub kind_parts : Kind → ℕ × (ℕ × List Seg)
+abbrev pub kind_parts : {T : Type 0} → KindOf T → ℕ × (ℕ × List T)
 kind_parts Scope = (0, (0, []))
 kind_parts Name = (1, (0, []))
 kind_parts (Method n) = (2, (n, []))
-kind_parts (Alias is_open t) = (3, (cond is_open 1 0, t))
+kind_parts (Alias is_open t) = (3, (cond is_open 1 0, t ∷ []))
 kind_parts Device = (4, (0, []))
 kind_parts Processor = (5, (0, []))
 kind_parts PowerResource = (6, (0, []))
@@ -38,40 +39,47 @@ kind_parts DataRegion = (11, (0, []))
 kind_parts Field = (12, (0, []))
 kind_parts BufferField = (13, (0, []))
 
-abbrev pub kind_whole : ℕ × (ℕ × List Seg) → Kind
-kind_whole p = get_or (Scope ∷ Name ∷ Method p.1.0 ∷ Alias (p.1.0 == 1) p.1.1 ∷ Device ∷ Processor ∷ PowerResource ∷ ThermalZone
-    ∷ Mutex ∷ Event ∷ Region ∷ DataRegion ∷ Field ∷ BufferField ∷ []) p.0 Scope
+abbrev pub kind_by : {T : Type 0} → ℕ → ℕ → List T → KindOf T
+kind_by k n [] = get_or (Scope ∷ Name ∷ Method n ∷ Scope ∷ Device ∷ Processor ∷ PowerResource ∷ ThermalZone
+    ∷ Mutex ∷ Event ∷ Region ∷ DataRegion ∷ Field ∷ BufferField ∷ []) k Scope
+kind_by k n (t ∷ ts) = Alias (n == 1) t
 
-pub kind_again : (k : Kind) → kind_whole (kind_parts k) ≡ k
+abbrev pub kind_whole : {T : Type 0} → ℕ × (ℕ × List T) → KindOf T
+kind_whole p = kind_by p.0 p.1.0 p.1.1
+
+pub kind_again : {T : Type 0} → (k : KindOf T) → kind_whole (kind_parts k) ≡ k
 kind_again Scope = refl
 kind_again (Alias true t) = refl
 kind_again (Alias false t) = refl
 kind_again _ = refl
 
-abbrev pub coded_kind : Coded Kind
-coded_kind = code_by (ℕ × (ℕ × List Seg)) (coded× coded_ℕ (coded× coded_ℕ coded_path)) kind_parts kind_whole kind_again
+abbrev pub coded_kind : {T : Type 0} → Coded T → Coded (KindOf T)
+coded_kind {T} target = code_by (ℕ × (ℕ × List T)) (coded× coded_ℕ (coded× coded_ℕ (coded_list target))) kind_parts kind_whole kind_again
 
 -- ---- What the declarations of a path say.
 
 -- The kind of the first; where the first isn't sure, those of the others, in order, up to and with the first sure one;
 -- whether a sure one is among all of them; and how many they are.
-pub record Declared : Type 0 where
-  pub kind : Kind
-  pub others : List Kind
+pub record Said (K : Type 0) : Type 0 where
+  pub kind : K
+  pub others : List K
   pub sure : Bool
   pub times : ℕ
 
+abbrev pub Declared : Type 0
+Declared = Said Kind
+
 -- one declaration more, before the others, if there are any
-abbrev pub before : Kind → Bool → Option Declared → Declared
+abbrev pub before : {K : Type 0} → K → Bool → Option (Said K) → Said K
 before kind sure None = record { kind = kind; others = []; sure = sure; times = 1 }
 before kind sure (Some d) =
     record { kind = kind; others = cond sure [] (d.kind ∷ d.others); sure = sure || d.sure; times = d.times + 1 }
 
 -- one alone, and one more behind the others
-abbrev pub once : Kind → Bool → Declared
+abbrev pub once : {K : Type 0} → K → Bool → Said K
 once kind sure = before kind sure None
 
-abbrev pub again : Declared → Kind → Bool → Declared
+abbrev pub again : {K : Type 0} → Said K → K → Bool → Said K
 again d kind sure = record {
   kind = d.kind;
   others = cond d.sure d.others (d.others ++ kind ∷ []);
@@ -79,7 +87,7 @@ again d kind sure = record {
   times = d.times + 1;
 }
 
-abbrev pub behind : Option Declared → Kind → Bool → Declared
+abbrev pub behind : {K : Type 0} → Option (Said K) → K → Bool → Said K
 behind None kind sure = once kind sure
 behind (Some d) kind sure = again d kind sure
 
@@ -94,19 +102,22 @@ abbrev pub declared_kind : Option Declared → Option Kind
 declared_kind o = option_map (λ (d : Declared). d.kind) o
 
 -- the kinds that a path may have, and whether it has one in every run, by its declarations and its predefined kind
-abbrev pub kinds_by : Option Declared → Option Kind → List Kind
+abbrev pub kinds_by : {K : Type 0} → Option (Said K) → Option K → List K
 kinds_by None standing = option_to_list standing
 kinds_by (Some d) standing = d.kind ∷ (d.others ++ cond d.sure [] (option_to_list standing))
 
-abbrev pub sure_by : Option Declared → Option Kind → Bool
+abbrev pub sure_by : {K : Type 0} → Option (Said K) → Option K → Bool
 sure_by None standing = is_some standing
 sure_by (Some d) standing = d.sure || is_some standing
 
-abbrev pub coded_declared : Coded Declared
-coded_declared = code_by (Kind × (List Kind × (Bool × ℕ)))
-    (coded× coded_kind (coded× (coded_list coded_kind) (coded× coded_bool coded_ℕ)))
+abbrev pub coded_said : {K : Type 0} → Coded K → Coded (Said K)
+coded_said {K} kind = code_by (K × (List K × (Bool × ℕ)))
+    (coded× kind (coded× (coded_list kind) (coded× coded_bool coded_ℕ)))
     (λ d. (d.kind, (d.others, (d.sure, d.times))))
     (λ p. record { kind = p.0; others = p.1.0; sure = p.1.1.0; times = p.1.1.1 }) (λ _. refl)
+
+abbrev pub coded_declared : Coded Declared
+coded_declared = coded_said (coded_kind coded_path)
 
 -- paths with what their declarations say
 abbrev pub coded_row : Coded (List Seg × Declared)

@@ -1,3 +1,4 @@
+pub mod Kinds
 pub mod Predefined
 pub mod Namespace
 pub mod Known

@@ -11,7 +11,8 @@ use Rattle.aml_names.specs.declared.segments.Seg.{Seg}
 use Rattle.aml_names.specs.declared.names.Name.{Name}
 use Rattle.aml_names.specs.Paths.{PathSet}
 use Rattle.aml_names.specs.Searching.{candidates}
-use Rattle.aml_namespace.specs.declared.kinds.Kind.{Kind}
+use Rattle.aml_namespace.specs.Kinds.{Kind}
+use Rattle.aml_namespace.specs.declared.kinds.Kind.{Kind as KindOf}
 use Rattle.aml_namespace.specs.declared.kinds.Kind.TheVariants.{Scope, Method, Alias, Device, Processor, PowerResource}
 use Rattle.aml_namespace.specs.declared.kinds.Kind.TheVariants.{ThermalZone}
 use Rattle.aml_namespace.specs.Predefined.{predefined}
@@ -56,7 +57,7 @@ abbrev pub outlook_of : List Entry → Outlook
 outlook_of es = record { first = namespace_of es; kinds = kinds_at es; sure = sure_at es }
 
 -- whether a Scope may open a path of this kind (ACPI 6.5, 19.6.122)
-abbrev pub opens_scope : Kind → Bool
+abbrev pub opens_scope : {T : Type 0} → KindOf T → Bool
 opens_scope Scope = true
 opens_scope Device = true
 opens_scope Processor = true
@@ -68,18 +69,18 @@ opens_scope _ = false
 abbrev pub scope_in : Outlook → List Seg → Bool
 scope_in o p = o.sure p && list_all opens_scope (o.kinds p)
 
-abbrev pub is_alias : Kind → Bool
+abbrev pub is_alias : {T : Type 0} → KindOf T → Bool
 is_alias (Alias is_open target) = true
 is_alias _ = false
 
 -- whether a kind is that of an open Alias
-abbrev pub is_open_alias : Kind → Bool
+abbrev pub is_open_alias : {T : Type 0} → KindOf T → Bool
 is_open_alias (Alias is_open target) = is_open
 is_open_alias _ = false
 
 -- Whether an Alias is open of what may be one of these kinds: where one is an Alias that isn't the only kind, or is open
 -- itself. In one run it stands for that one's target then, and in another for something else.
-abbrev pub open_among : List Kind → Bool
+abbrev pub open_among : {T : Type 0} → List (KindOf T) → Bool
 open_among ks = list_any (λ k. is_alias k && (nat_lt 1 (length ks) || is_open_alias k)) ks
 
 -- whether an Alias of a path is open

@@ -3,13 +3,13 @@ use Rattle.std.specs.Prelude.{◌≡◌, ℕ, Bool, true, false, cond, List, [],
 use Rattle.std.specs.Prelude.{◌+◌, ◌++◌, ◌||◌}
 use Rattle.std.specs.List.{list_any, list_all}
 use Rattle.std.specs.Global.{Box}
-use Rattle.aml_namespace.specs.declared.kinds.Kind.{Kind}
+use Rattle.aml_namespace.specs.declared.kinds.Kind.{Kind as KindOf}
 use Rattle.aml_namespace.specs.declared.kinds.Kind.TheVariants.{Method}
 use Rattle.aml_namespace.specs.declared.tallies.Counts.{Counts}
 use Rattle.aml_namespace.specs.declared.tallies.Counts.TheVariants.{Nothing, One, Several}
 use Rattle.aml_namespace.specs.declared.tallies.Tally.{Tally}
 use Rattle.aml_namespace.specs.declared.declarations.Again.{Again}
-use Rattle.aml_namespace.specs.Known.{Declared, once}
+use Rattle.aml_namespace.specs.Known.{Said, once}
 use Rattle.aml_namespace.specs.Runs.{is_alias, opens_scope}
 
 -- what two come to
@@ -32,12 +32,12 @@ chosen (One n) differ unmet = Some n
 chosen Several differ unmet = differ
 
 -- the arguments that a kind takes by itself
-abbrev pub own_count : Kind → ℕ
+abbrev pub own_count : {T : Type 0} → KindOf T → ℕ
 own_count (Method args) = args
 own_count _ = 0
 
 -- what the own counts of some kinds come to, whether an Alias is among them, and whether a Scope may open each
-abbrev pub tally_of : List Kind → Tally
+abbrev pub tally_of : {T : Type 0} → List (KindOf T) → Tally
 tally_of ks = record {
   counts = counts_in (map own_count ks);
   aliased = list_any is_alias ks;
@@ -45,22 +45,22 @@ tally_of ks = record {
 }
 
 -- what is kept of the declarations of a path: by its kind, and by what the further ones say
-abbrev pub declared_with : Kind → Option (Box Again) → Declared
+abbrev pub declared_with : KindOf ℕ → Option (Box Again) → Said (KindOf ℕ)
 declared_with kind None = once kind true
 declared_with kind (Some a) =
     record { kind = kind; others = a.value.others.items; sure = a.value.sure; times = a.value.times }
 
 -- the tally that is kept is that of all kinds
-abbrev pub IsTallied : Kind → Option (Box Again) → Type 0
+abbrev pub IsTallied : KindOf ℕ → Option (Box Again) → Type 0
 IsTallied kind None = Unit {0}
 IsTallied kind (Some a) = a.value.tally ≡ tally_of (kind ∷ a.value.others.items)
 
 -- one declaration more
-pub record IsAgain (old new : Again) (kind : Kind) (is_sure : Bool) : Type 0 where
+pub record IsAgain (old new : Again) (kind : KindOf ℕ) (is_sure : Bool) : Type 0 where
   pub others : new.others.items ≡ cond old.sure old.others.items (old.others.items ++ kind ∷ [])
   pub sure : new.sure ≡ (old.sure || is_sure)
   pub times : new.times ≡ old.times + 1
-  pub tally : (first : Kind) → old.tally ≡ tally_of (first ∷ old.others.items)
+  pub tally : (first : KindOf ℕ) → old.tally ≡ tally_of (first ∷ old.others.items)
       → new.tally ≡ tally_of (first ∷ new.others.items)
 
 abbrev pub is_nothing : Counts → Bool

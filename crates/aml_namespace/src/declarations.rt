@@ -1,19 +1,20 @@
 //! What the declarations of a path say.
-ghost use Rattle.std.specs.Prelude.{◌≡◌, ◌∷◌, ◌++◌, [], OnOk, OnErr, IfOk};
-ghost use Rattle.aml_namespace.specs.declared.kinds.Kind.{Kind as AnyKind};
+ghost use Rattle.std.specs.Prelude.{◌≡◌, ◌∷◌, ◌++◌, [], ℕ, OnOk, OnErr, IfOk};
+ghost use Rattle.aml_namespace.specs.declared.kinds.Kind.{Kind as KindOf};
 ghost use Rattle.aml_namespace.specs.Known.{once, again};
 ghost use Rattle.aml_namespace.specs.Tallies.{tally_of, IsAgain, IsUnchanged};
 
+use crate::ids::PathId;
 use crate::kinds::Kind;
 use crate::tallies::Tally;
 use std::alloc::{AllocError, Global};
 use std::marker::Model;
 
-/// What is kept of the declarations of a path.
+/// What is kept of the declarations of a path. Their kinds tell targets of Aliases by number.
 #[derive(Drop)]
 pub struct Declarations {
     /// The kind of the first.
-    kind: Kind,
+    kind: Kind<PathId>,
     /// Most paths are declared once, surely: nothing.
     again: Option<Box<Again>>,
 }
@@ -22,7 +23,7 @@ pub struct Declarations {
 #[derive(Drop)]
 struct Again {
     /// The kinds of the further declarations, up to and with the first sure one.
-    others: Vec<Kind>,
+    others: Vec<Kind<PathId>>,
     /// Whether a declaration is sure.
     sure: bool,
     /// How many declarations there are.
@@ -32,12 +33,15 @@ struct Again {
 }
 
 impl Model for Declarations {
-    ghost use Rattle.aml_namespace.specs.Known.{Declared, coded_declared};
+    ghost use Rattle.std.specs.Prelude.{ℕ};
+    ghost use Rattle.std.specs.Coded.{coded_ℕ};
+    ghost use Rattle.aml_namespace.specs.declared.kinds.Kind.{Kind as KindOf};
+    ghost use Rattle.aml_namespace.specs.Known.{Said, coded_kind, coded_said};
     ghost use Rattle.aml_namespace.specs.Tallies.{declared_with, IsTallied};
 
-    ghost Value = { Declared };
+    ghost Value = { Said (KindOf ℕ) };
 
-    ghost coded = { coded_declared };
+    ghost coded = { coded_said (coded_kind coded_ℕ) };
 
     ghost view = { λ s. declared_with s.kind s.again };
 
@@ -46,7 +50,7 @@ impl Model for Declarations {
 
 impl Declarations {
     /// One declaration.
-    pub fn new(alloc: Global, kind: Kind, sure: bool) -> Result<Declarations, AllocError>
+    pub fn new(alloc: Global, kind: Kind<PathId>, sure: bool) -> Result<Declarations, AllocError>
         ensures { IfOk result (λ said. said ≡ once kind sure) }
     {
         if sure {
@@ -60,7 +64,7 @@ impl Declarations {
     }
 
     /// One declaration more. A refused one changes nothing.
-    pub fn declare(&mut self, alloc: Global, kind: Kind, sure: bool) -> Result<(), AllocError>
+    pub fn declare(&mut self, alloc: Global, kind: Kind<PathId>, sure: bool) -> Result<(), AllocError>
         ensures ok { OnOk result (self.new ≡ again self.old kind sure) }
         ensures err { OnErr result (self.new ≡ self.old) }
     {
@@ -75,10 +79,10 @@ impl Declarations {
     }
 
     /// The kind with which the path is declared first.
-    pub fn kind(&self) -> &Kind
-        ensures { result.now ≡ self.now.kind }
+    pub fn kind(&self) -> Kind<PathId>
+        ensures { result ≡ self.now.kind }
     {
-        &self.kind
+        self.kind
     }
 
     /// Whether a declaration is sure.
@@ -102,7 +106,7 @@ impl Declarations {
     }
 
     /// The kinds of the further declarations, up to and with the first sure one.
-    pub fn others(&self) -> &[Kind]
+    pub fn others(&self) -> &[Kind<PathId>]
         ensures { result.now ≡ self.now.others }
     {
         match &self.again {
@@ -124,7 +128,7 @@ impl Declarations {
 
 impl Again {
     /// No kind but the first.
-    fn first(alloc: Global, kind: &Kind, sure: bool, times: usize) -> Again
+    fn first(alloc: Global, kind: &Kind<PathId>, sure: bool, times: usize) -> Again
         ensures others { result.others.items ≡ [] }
         ensures sure { result.sure ≡ sure }
         ensures times { result.times ≡ times }
@@ -139,7 +143,7 @@ impl Again {
     }
 
     /// One declaration more, whose kind counts where none so far is sure. A refused one changes nothing.
-    fn declare(&mut self, kind: Kind, sure: bool) -> Result<(), AllocError>
+    fn declare(&mut self, kind: Kind<PathId>, sure: bool) -> Result<(), AllocError>
         ensures ok { OnOk result (IsAgain self.old self.new kind sure) }
         ensures err { OnErr result (IsUnchanged self.old self.new) }
     {
@@ -154,10 +158,10 @@ impl Again {
     }
 
     /// One kind more.
-    fn declare_kind(&mut self, kind: Kind, sure: bool) -> Result<(), AllocError>
+    fn declare_kind(&mut self, kind: Kind<PathId>, sure: bool) -> Result<(), AllocError>
         ensures others { OnOk result (self.new.others.items ≡ self.old.others.items ++ kind ∷ []) }
         ensures sure { OnOk result (self.new.sure ≡ sure) }
-        ensures tally { OnOk result ((first : AnyKind) → self.old.tally ≡ tally_of (first ∷ self.old.others.items) →
+        ensures tally { OnOk result ((first : KindOf ℕ) → self.old.tally ≡ tally_of (first ∷ self.old.others.items) →
             self.new.tally ≡ tally_of (first ∷ self.new.others.items)) }
         ensures times { self.new.times ≡ self.old.times }
         ensures err { OnErr result (IsUnchanged self.old self.new) }

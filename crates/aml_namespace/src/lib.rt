@@ -4,6 +4,7 @@
 #![tactic(auto)]
 
 mod declarations;
+mod ids;
 mod kinds;
 mod laws;
 mod predefined;
@@ -12,12 +13,13 @@ mod runs;
 mod tallies;
 
 pub use declarations::Declarations;
-pub use kinds::{Kind, Target};
+pub use ids::PathId;
+pub use kinds::Kind;
 pub use laws::rows_are_declared;
-pub use predefined::Predefined;
+pub use predefined::{predefined_kind, predefined_of};
 pub use rows::SpaceRow;
 pub use runs::{
     every_run_agrees, every_run_leads_there, quick_way_holds, runs_differ, stays_as_it_is,
     sure_stays,
 };
-pub use tallies::{Counts, Tally, is_open_alias, opens_scope, own_counts};
+pub use tallies::{Counts, Tally, own_counts};

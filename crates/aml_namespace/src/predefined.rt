@@ -1,9 +1,11 @@
 //! The names that stand in every namespace.
-ghost use Rattle.std.specs.Prelude.{◌≡◌, [], ◌∷◌};
-ghost use Rattle.std.specs.Option.{option_copied};
-ghost use Rattle.aml_namespace.specs.declared.kinds.Kind.{Kind};
+ghost use Rattle.std.specs.Prelude.{◌≡◌, [], ◌∷◌, List};
+ghost use Rattle.std.specs.Option.{option_map};
+ghost use Rattle.aml_names.specs.declared.segments.Seg.{Seg as AnySeg};
+ghost use Rattle.aml_namespace.specs.Kinds.{kind_in};
 ghost use Rattle.aml_namespace.specs.Predefined.{predefined, predefined_segment, is_one_of};
 
+use crate::ids::PathId;
 use crate::kinds::Kind;
 use aml_names::{Parts, Seg};
 
@@ -21,69 +23,45 @@ const NAMES: [Seg; 2] = [Seg(*b"_OS_"), Seg(*b"_REV")];
 
 const OSI: Seg = Seg(*b"_OSI");
 
-/// The kinds of the predefined names (ACPI 6.5, 5.3.1 and 5.7), so that they can be lent.
-#[derive(Drop)]
-pub struct Predefined {
-    scope: Kind,
-    mutex: Kind,
-    name: Kind,
-    osi: Kind,
-    ghost scope_is: { scope ≡ Kind.Scope },
-    ghost mutex_is: { mutex ≡ Kind.Mutex },
-    ghost name_is: { name ≡ Kind.Name },
-    ghost osi_is: { osi ≡ Kind.Method 1 },
+/// The kind of a predefined path (ACPI 6.5, 5.3.1 and 5.7). It is no Alias's.
+pub fn predefined_kind(path: &[Seg]) -> Option<Kind<PathId>>
+    ensures { (paths : List (List AnySeg)) → option_map (kind_in paths) result ≡ predefined path.now }
+{
+    match path {
+        [] => Some(Kind::Scope),
+        [segment] => kind_of_segment(*segment),
+        _ => None,
+    }
 }
 
-impl Predefined {
-    /// Each of these kinds once.
-    pub fn new() -> Predefined {
-        Predefined {
-            scope: Kind::Scope,
-            mutex: Kind::Mutex,
-            name: Kind::Name,
-            osi: Kind::Method { args: 1 },
-        }
+/// That of a path in parts.
+pub fn predefined_of(path: &Parts<'_>) -> Option<Kind<PathId>>
+    ensures { (paths : List (List AnySeg)) → option_map (kind_in paths) result ≡ predefined path.now }
+{
+    let (front, own) = path.slices();
+    if front.is_empty() {
+        return predefined_kind(own);
     }
-
-    /// The kind of a predefined path.
-    pub fn kind(&self, path: &[Seg]) -> Option<&Kind>
-        ensures { option_copied result ≡ predefined path.now }
-    {
-        match path {
-            [] => Some(&self.scope),
-            [segment] => self.kind_of_segment(*segment),
-            _ => None,
-        }
+    if own.is_empty() {
+        return predefined_kind(front);
     }
+    None
+}
 
-    /// That of a path in parts.
-    pub fn kind_of(&self, path: &Parts<'_>) -> Option<&Kind>
-        ensures { option_copied result ≡ predefined path.now }
-    {
-        let (front, own) = path.slices();
-        if front.is_empty() {
-            return self.kind(own);
-        }
-        if own.is_empty() {
-            return self.kind(front);
-        }
+/// That of a segment below the root.
+fn kind_of_segment(segment: Seg) -> Option<Kind<PathId>>
+    ensures { (paths : List (List AnySeg)) → option_map (kind_in paths) result ≡ predefined_segment segment }
+{
+    if is_scope(segment) {
+        Some(Kind::Scope)
+    } else if is_global_lock(segment) {
+        Some(Kind::Mutex)
+    } else if is_name(segment) {
+        Some(Kind::Name)
+    } else if is_osi(segment) {
+        Some(Kind::Method { args: 1 })
+    } else {
         None
-    }
-
-    fn kind_of_segment(&self, segment: Seg) -> Option<&Kind>
-        ensures { option_copied result ≡ predefined_segment segment }
-    {
-        if is_scope(segment) {
-            Some(&self.scope)
-        } else if is_global_lock(segment) {
-            Some(&self.mutex)
-        } else if is_name(segment) {
-            Some(&self.name)
-        } else if is_osi(segment) {
-            Some(&self.osi)
-        } else {
-            None
-        }
     }
 }
 

@@ -6,7 +6,7 @@ use aml_names::Path;
 #[derive(Drop)]
 pub struct SpaceRow {
     pub path: Path,
-    pub kind: Kind,
+    pub kind: Kind<Path>,
     pub sure: bool,
     pub times: usize,
 }

@@ -1,11 +1,10 @@
 //! What the counts of several kinds come to.
 ghost use Rattle.std.specs.Prelude.{◌≡◌, ◌∷◌, ◌++◌, [], map, List};
-ghost use Rattle.std.specs.Option.{option_copied};
-ghost use Rattle.std.specs.Prelude.{option_to_list};
-ghost use Rattle.aml_namespace.specs.declared.kinds.Kind.{Kind as AnyKind};
+ghost use Rattle.std.specs.Prelude.{ℕ, option_to_list};
+ghost use Rattle.aml_namespace.specs.declared.kinds.Kind.{Kind as KindOf};
 ghost use Rattle.aml_namespace.specs.Tallies.{joined, counts_in, own_count as own, tally_of};
-ghost use Rattle.aml_namespace.specs.Runs.{is_alias as aliases, is_open_alias as is_open_one, opens_scope as scopes};
 
+use crate::ids::PathId;
 use crate::kinds::Kind;
 
 /// Whether there are counts, and whether they are all the same.
@@ -52,76 +51,35 @@ pub struct Tally {
 
 impl Tally {
     /// That of one kind.
-    pub fn of(kind: &Kind) -> Tally
+    pub fn of(kind: &Kind<PathId>) -> Tally
         ensures { result ≡ tally_of (kind.now ∷ []) }
     {
         Tally {
-            counts: Counts::One(own_count(kind)),
-            aliased: is_alias(kind),
-            scopes: opens_scope(kind),
+            counts: Counts::One(kind.own_count()),
+            aliased: kind.is_alias(),
+            scopes: kind.opens_scope(),
         }
     }
 
     /// That of one kind more.
     #[tactic(auto, using(crate::proofs::Joined::tally_more))]
-    pub fn with(self, kind: &Kind) -> Tally
-        ensures { (kinds : List AnyKind) → self ≡ tally_of kinds → result ≡ tally_of (kinds ++ kind.now ∷ []) }
+    pub fn with(self, kind: &Kind<PathId>) -> Tally
+        ensures { (kinds : List (KindOf ℕ)) → self ≡ tally_of kinds → result ≡ tally_of (kinds ++ kind.now ∷ []) }
     {
         Tally {
-            counts: self.counts.joined(Counts::One(own_count(kind))),
-            aliased: self.aliased || is_alias(kind),
-            scopes: self.scopes && opens_scope(kind),
+            counts: self.counts.joined(Counts::One(kind.own_count())),
+            aliased: self.aliased || kind.is_alias(),
+            scopes: self.scopes && kind.opens_scope(),
         }
     }
 }
 
-/// The arguments that a kind takes by itself.
-fn own_count(kind: &Kind) -> u8
-    ensures { result ≡ own kind.now }
-{
-    match kind {
-        Kind::Method { args } => *args,
-        _ => 0,
-    }
-}
-
-/// Whether a kind is an Alias.
-fn is_alias(kind: &Kind) -> bool
-    ensures { result ≡ aliases kind.now }
-{
-    match kind {
-        Kind::Alias { .. } => true,
-        _ => false,
-    }
-}
-
-/// Whether a kind is that of an open Alias.
-pub fn is_open_alias(kind: &Kind) -> bool
-    ensures { result ≡ is_open_one kind.now }
-{
-    match kind {
-        Kind::Alias { is_open, .. } => *is_open,
-        _ => false,
-    }
-}
-
-/// Whether a Scope may open a path of a kind (ACPI 6.5, 19.6.122).
-pub fn opens_scope(kind: &Kind) -> bool
-    ensures { result ≡ scopes kind.now }
-{
-    match kind {
-        Kind::Scope | Kind::Device | Kind::Processor | Kind::PowerResource | Kind::ThermalZone =>
-            true,
-        _ => false,
-    }
-}
-
 /// What the own count of a kind comes to, if there is one.
-pub fn own_counts(kind: Option<&Kind>) -> Counts
-    ensures { result ≡ counts_in (map own (option_to_list (option_copied kind.entry))) }
+pub fn own_counts(kind: Option<Kind<PathId>>) -> Counts
+    ensures { result ≡ counts_in (map own (option_to_list kind)) }
 {
     match kind {
         None => Counts::Nothing,
-        Some(kind) => Counts::One(own_count(kind)),
+        Some(kind) => Counts::One(kind.own_count()),
     }
 }
