@@ -28,7 +28,7 @@ use Rattle.aml_code.proofs.RowFacts.{rows_say}
 use Rattle.aml_names.specs.Paths.{PathSet}
 use Rattle.aml_space.specs.declared.faults.SpaceFault.{SpaceFault}
 use Rattle.aml_space.specs.declared.faults.SpaceFault.TheVariants as faults
-use Rattle.aml_namespace.specs.declared.kinds.Kind.{Kind}
+use Rattle.aml_namespace.specs.Kinds.{Kind}
 use Rattle.aml_namespace.specs.declared.kinds.Kind.TheVariants as kinds
 use Rattle.aml_namespace.specs.Namespace.{Entry, external, declared_at, namespace_of, first_of, found, is_outside}
 use Rattle.aml_namespace.specs.Runs.{outlook_of, agreed_or, first_agreed, agreed_path, scope_in}

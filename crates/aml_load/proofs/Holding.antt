@@ -18,7 +18,7 @@ use Rattle.aml_code.proofs.Views.{view-Op}
 use Rattle.std.specs.Option.{ok_or}
 use Rattle.std.specs.List.{cons_option}
 use Rattle.aml_names.specs.declared.segments.Seg.{Seg}
-use Rattle.aml_namespace.specs.declared.kinds.Kind.{Kind}
+use Rattle.aml_namespace.specs.Kinds.{Kind}
 use Rattle.aml_namespace.specs.declared.kinds.Kind.TheVariants as kinds
 use Rattle.aml_space.specs.declared.faults.SpaceFault.TheVariants as faults
 use Rattle.aml_namespace.specs.Namespace.{Entry, Body, declares, declared_at}

@@ -12,7 +12,7 @@ use Rattle.aml_code.specs.declared.rows.Role.TheVariants as roles
 use Rattle.aml_code.specs.Tree.{Tree, op, Trees, no_trees, tree_more, Parts, Tail, terms}
 use Rattle.aml_code.specs.Lawful.{last_label, field_names}
 use Rattle.aml_names.specs.Paths.{path_cmp, exact_paths}
-use Rattle.aml_namespace.specs.declared.kinds.Kind.{Kind}
+use Rattle.aml_namespace.specs.Kinds.{Kind}
 use Rattle.aml_namespace.specs.declared.kinds.Kind.TheVariants as kinds
 use Rattle.aml_namespace.specs.Namespace.{Entry, Body, Givens, declares, external, given, given_entries, same_path}
 use Rattle.aml_namespace.specs.Namespace.{declared_at}

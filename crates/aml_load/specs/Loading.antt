@@ -19,7 +19,7 @@ use Rattle.std.specs.List.{filter_map, list_all}
 use Rattle.aml_code.specs.declared.rows.Group.{Group}
 use Rattle.aml_code.specs.declared.rows.Object.{Object}
 use Rattle.aml_code.specs.Opcodes.{row_of}
-use Rattle.aml_namespace.specs.declared.kinds.Kind.{Kind}
+use Rattle.aml_namespace.specs.Kinds.{Kind}
 use Rattle.aml_set.specs.Methods.{Method}
 use Rattle.std.specs.FinSet as set
 use Rattle.aml_code.specs.declared.rows.Position.TheVariants as positions
@@ -95,11 +95,6 @@ method_entry site es flags span p = declares p (kinds.Method (flags % 8))
 abbrev pub leads : Where → List Entry → Name → Option (List Seg)
 leads site es =
     cond site.any_run (agreed_path (outlook_of es) site.scope) (found (namespace_of es) set.empty site.scope)
-
--- what an Alias of a path stands for: the path, or that path's own target if it is an Alias
-abbrev pub target_by : Option Kind → List Seg → List Seg
-target_by (Some (kinds.Alias is_open q)) p = q
-target_by _ p = p
 
 -- the entry of an Alias of a source, which is declared in every run only where its source has a kind in every run, and
 -- the path above it too

@@ -13,7 +13,7 @@ use Rattle.aml_code.specs.Lawful.{last_label}
 use Rattle.aml_code.specs.Tree.{Tree, op, Trees, no_trees, tree_more, Parts, Tail, terms}
 use Rattle.aml_parse.specs.Running.{Names}
 use Rattle.aml_space.specs.declared.faults.SpaceFault.TheVariants as faults
-use Rattle.aml_namespace.specs.declared.kinds.Kind.{Kind}
+use Rattle.aml_namespace.specs.Kinds.{Kind}
 use Rattle.aml_namespace.specs.Namespace.{Entry, declared_at, namespace_of, found}
 use Rattle.aml_namespace.specs.Runs.{scope_in, outlook_of, agreed_arity}
 use Rattle.aml_load.specs.declared.faults.LoadFault.{LoadFault}

@@ -207,7 +207,7 @@ module _ {A : Type 0} (f : A → List ℕ) where
   counts_declared xs standing false = counts_flat xs standing
 
 -- the same of the own counts
-pub targets_declared : (xs standing : List Kind) (sure : Bool) → counts_in (map own_count (xs ++ cond sure [] standing))
+pub targets_declared : {T : Type 0} (xs standing : List (KindOf T)) (sure : Bool) → counts_in (map own_count (xs ++ cond sure [] standing))
     ≡ cond sure (counts_in (map own_count xs)) (joined (counts_in (map own_count xs)) (counts_in (map own_count standing)))
 targets_declared xs standing true = ap (λ ys. counts_in (map own_count ys)) (append-nil xs)
 targets_declared xs standing false = ap counts_in (map-append own_count xs standing) ∙ counts_more (map own_count xs) (map own_count standing)

@@ -16,4 +16,5 @@ pub mod Meeting
 pub mod Finding
 pub mod Growing
 pub mod Said
+pub mod Aimed
 pub mod Numbers

@@ -7,9 +7,10 @@ use Rattle.std.proofs.lemmas.Bool.Decides.{nat_tests}
 use Rattle.std.specs.List.{list_all, list_any}
 use Rattle.aml_names.specs.declared.segments.Seg.{Seg}
 use Rattle.aml_namespace.specs.Kinds.{Kind}
+use Rattle.aml_namespace.specs.declared.kinds.Kind.{Kind as KindOf}
 use Rattle.aml_namespace.specs.declared.kinds.Kind.TheVariants.{Scope, Name, Method, Mutex}
 use Rattle.aml_namespace.specs.Predefined.{is_one_of, predefined}
-use Rattle.aml_namespace.specs.Known.{Declared, kinds_by, sure_by}
+use Rattle.aml_namespace.specs.Known.{Said, kinds_by, sure_by}
 use Rattle.aml_namespace.specs.Runs.{opens_scope, is_alias, is_open_alias, open_among}
 
 and_all : (a b c : Bool) → (a && (b && c)) ≡ ((a && b) && c)
@@ -28,25 +29,25 @@ or_false : (a : Bool) → (a || false) ≡ a
 or_false true = refl
 or_false false = refl
 
-all_join : (f : Kind → Bool) (xs ys : List Kind) → list_all f (xs ++ ys) ≡ (list_all f xs && list_all f ys)
+all_join : {T : Type 0} (f : KindOf T → Bool) (xs ys : List (KindOf T)) → list_all f (xs ++ ys) ≡ (list_all f xs && list_all f ys)
 all_join f [] ys = refl
 all_join f (x ∷ xs) ys = ap (λ b. f x && b) (all_join f xs ys) ∙ and_all (f x) (list_all f xs) (list_all f ys)
 
-any_join : (f : Kind → Bool) (xs ys : List Kind) → list_any f (xs ++ ys) ≡ (list_any f xs || list_any f ys)
+any_join : {T : Type 0} (f : KindOf T → Bool) (xs ys : List (KindOf T)) → list_any f (xs ++ ys) ≡ (list_any f xs || list_any f ys)
 any_join f [] ys = refl
 any_join f (x ∷ xs) ys = ap (λ b. f x || b) (any_join f xs ys) ∙ or_all (f x) (list_any f xs) (list_any f ys)
 
-pub scope_said : (d : Declared) (standing : Option Kind)
+pub scope_said : {T : Type 0} (d : Said (KindOf T)) (standing : Option (KindOf T))
     → (list_all opens_scope (d.kind ∷ d.others) && (d.sure || (is_some standing && list_all opens_scope (option_to_list standing))))
     ≡ (sure_by (Some d) standing && list_all opens_scope (kinds_by (Some d) standing))
-scope_said d standing = by d.sure standing
+scope_said {T} d standing = by d.sure standing
     ∙ ap (λ b. (d.sure || is_some standing) && b)
     (sym (all_join opens_scope (d.kind ∷ d.others) (cond d.sure [] (option_to_list standing))))
   where
     all : Bool
     all = list_all opens_scope (d.kind ∷ d.others)
 
-    by : (sure : Bool) (o : Option Kind)
+    by : (sure : Bool) (o : Option (KindOf T))
         → (all && (sure || (is_some o && list_all opens_scope (option_to_list o))))
         ≡ ((sure || is_some o) && (all && list_all opens_scope (cond sure [] (option_to_list o))))
     by true o = refl
@@ -73,27 +74,27 @@ no_alias (s ∷ []) = by (is_one_of ("_GPE" ∷ "_PR_" ∷ "_SB_" ∷ "_SI_" ∷
 no_alias (s ∷ t ∷ rest) = tt
 
 -- the predefined kind, where it counts
-abbrev last : Bool → Option Kind → List Kind
+abbrev last : {T : Type 0} → Bool → Option (KindOf T) → List (KindOf T)
 last sure standing = cond sure [] (option_to_list standing)
 
-none_last : (sure : Bool) (standing : Option Kind) → IfSome standing (λ k. is_alias k ≡ false)
+none_last : {T : Type 0} (sure : Bool) (standing : Option (KindOf T)) → IfSome standing (λ k. is_alias k ≡ false)
     → list_any is_alias (last sure standing) ≡ false
 none_last true standing plain = refl
 none_last false None plain = refl
 none_last false (Some k) plain = ap (λ b. b || false) plain
 
 -- of several kinds each Alias counts
-several : (many : Bool) (ks : List Kind) → many ≡ true
+several : {T : Type 0} (many : Bool) (ks : List (KindOf T)) → many ≡ true
     → list_any (λ k. is_alias k && (many || is_open_alias k)) ks ≡ list_any is_alias ks
 several many [] h = refl
 several many (k ∷ ks) h = (λ i. (is_alias k && (h i || is_open_alias k)) || several many ks h i)
     ∙ ap (λ b. b || list_any is_alias ks) (and_true (is_alias k))
 
-pub open_said : (d : Declared) (standing : Option Kind) → IfSome standing (λ k. is_alias k ≡ false)
+pub open_said : {T : Type 0} (d : Said (KindOf T)) (standing : Option (KindOf T)) → IfSome standing (λ k. is_alias k ≡ false)
     → (list_any is_alias (d.kind ∷ d.others)
     && (is_open_alias d.kind || (nat_lt 0 (length d.others) || (not d.sure && is_some standing))))
     ≡ open_among (kinds_by (Some d) standing)
-open_said d standing plain = by d.kind d.others d.sure standing plain
+open_said {T} d standing plain = by d.kind d.others d.sure standing plain
   where
     one : (a p : Bool) → ((a || false) && (p || false)) ≡ ((a && (false || p)) || false)
     one true true = refl
@@ -110,7 +111,7 @@ open_said d standing plain = by d.kind d.others d.sure standing plain
     told a true many more h = and_true a
     told a false many more h = ap (λ b. a && (b || more)) h ∙ and_true a
 
-    by : (k : Kind) (others : List Kind) (sure : Bool) (o : Option Kind) → IfSome o (λ k. is_alias k ≡ false)
+    by : (k : KindOf T) (others : List (KindOf T)) (sure : Bool) (o : Option (KindOf T)) → IfSome o (λ k. is_alias k ≡ false)
         → (list_any is_alias (k ∷ others) && (is_open_alias k || (nat_lt 0 (length others) || (not sure && is_some o))))
         ≡ open_among (k ∷ (others ++ last sure o))
     by k [] true o h = one (is_alias k) (is_open_alias k)

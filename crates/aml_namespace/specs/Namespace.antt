@@ -84,6 +84,11 @@ first_of n locals paths = option_or
 abbrev pub found : Namespace → PathSet → List Seg → Name → Option (List Seg)
 found n locals scope name = first_of n locals (candidates scope name)
 
+-- what an Alias of a path stands for: the path, or that path's own target if it is an Alias
+abbrev pub target_by : Option Kind → List Seg → List Seg
+target_by (Some (Alias is_open q)) p = q
+target_by _ p = p
+
 -- the count of what stands at the target of an Alias: a method's; 0 for another kind, an Alias too; without a kind that
 -- of its Externals, or 0
 abbrev pub target_count : Option Kind → Option ℕ → ℕ

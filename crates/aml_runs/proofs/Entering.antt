@@ -16,7 +16,7 @@ use Rattle.aml_code.specs.declared.rows.Role.{Role}
 use Rattle.aml_code.specs.declared.rows.Role.TheVariants as roles
 use Rattle.aml_code.specs.Lawful.{last_label, field_names}
 use Rattle.aml_code.specs.Tree.{Parts, Tail}
-use Rattle.aml_namespace.specs.declared.kinds.Kind.{Kind}
+use Rattle.aml_namespace.specs.Kinds.{Kind}
 use Rattle.aml_namespace.specs.declared.kinds.Kind.TheVariants as kinds
 use Rattle.aml_namespace.specs.Namespace.{Entry, declares, external, declared_at, Namespace, namespace_of, kind_at}
 use Rattle.aml_namespace.specs.Namespace.{found}

@@ -5,7 +5,7 @@ use Rattle.std.proofs.Common.{◌≡◌, Bool, true, false, not, cond, List, [],
 use Rattle.std.proofs.Common.{ap, ◌∙◌}
 use Rattle.std.proofs.lemmas.Bool.{false≢true}
 use Rattle.aml_names.specs.declared.segments.Seg.{Seg}
-use Rattle.aml_namespace.specs.declared.kinds.Kind.{Kind}
+use Rattle.aml_namespace.specs.Kinds.{Kind}
 use Rattle.aml_namespace.specs.declared.kinds.Kind.TheVariants.{Alias}
 use Rattle.aml_namespace.specs.Namespace.{Entry, Body, declares, declared_at, Namespace, namespace_of, kind_at}
 use Rattle.aml_namespace.specs.Runs.{may_miss, sure_at}

@@ -15,7 +15,7 @@ use Rattle.aml_code.specs.Tree.{Tree, Trees}
 use Rattle.aml_parse.specs.Reading.{segmented_at, parts_at, to_end_at, opcode_at, plain_at, packed_at, taken_at}
 use Rattle.aml_parse.specs.Reading.{operation_at, term_at, read_at, step_at}
 use Rattle.aml_parse.specs.Running.{run_term_at, run_terms_at, run_span_at, run_table_at}
-use Rattle.aml_namespace.specs.declared.kinds.Kind.{Kind}
+use Rattle.aml_namespace.specs.Kinds.{Kind}
 use Rattle.aml_namespace.specs.declared.kinds.Kind.TheVariants as kinds
 use Rattle.aml_namespace.specs.Namespace.{Entry, declares}
 use Rattle.aml_load.specs.declared.faults.LoadFault.{LoadFault}

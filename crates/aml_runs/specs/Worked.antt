@@ -10,7 +10,7 @@ use Rattle.aml_code.specs.declared.packages.PkgWidth.TheVariants.{One}
 use Rattle.aml_code.specs.Lawful.{plain_name}
 use Rattle.aml_code.specs.Tree.{Tree, op, Trees, no_trees, tree_more, Part, child, label, byte, Parts, no_parts}
 use Rattle.aml_code.specs.Tree.{part_more, Tail, empty, terms, elements, body}
-use Rattle.aml_namespace.specs.declared.kinds.Kind.{Kind}
+use Rattle.aml_namespace.specs.Kinds.{Kind}
 use Rattle.aml_namespace.specs.declared.kinds.Kind.TheVariants as kinds
 use Rattle.aml_namespace.specs.Namespace.{Entry, declares, namespace_of, arity_of}
 use Rattle.aml_namespace.specs.Runs.{outlook_of, arity_by_kinds}

@@ -12,7 +12,7 @@ use Rattle.aml_names.specs.declared.segments.Seg.{Seg}
 use Rattle.aml_names.specs.Paths.{PathSet}
 use Rattle.aml_space.specs.declared.nodes.Node.{Node}
 use Rattle.aml_children.specs.Numbered.{walk}
-use Rattle.aml_space.specs.Nodes.{Content, kids_of, content_of, part_by, known_by, IsShape}
+use Rattle.aml_space.specs.Nodes.{Content, kids_of, content_of, part_by, said_by, known_by, IsShape}
 use Rattle.aml_namespace.specs.Known.{declared_kind, namespace_in}
 use Rattle.aml_namespace.specs.Namespace.{Namespace, kind_at, decides, is_outside}
 use Rattle.aml_namespace.specs.Predefined.{predefined}
@@ -25,7 +25,7 @@ use Rattle.aml_namespace.proofs.NotPredefined.{predefined_deep}
 pub unknown_at : (ns : List Node) → IsShape ns → (p : List Seg) (at : Option ℕ) → at ≡ walk (kids_of ns) 0 p → at ≡ None
     → IsUnknown (namespace_in (known_by ns)) p
 unknown_at ns shape p at led none = record {
-  declared = ap declared_kind (by (λ c. c.declared));
+  declared = ap declared_kind (by (said_by ns));
   out = by (λ c. c.out);
   given = by (λ c. c.given);
 }

@@ -18,12 +18,18 @@ use Rattle.aml_space.specs.declared.nodes.Node.{Node}
 use Rattle.aml_children.specs.Numbered.{walk, IsFamily, links_up, segs_down}
 use Rattle.aml_space.specs.Nodes.{Content, nothing, kids_in, kids_of, links_of, depths_of, path_of, content_in, content_of}
 use Rattle.aml_space.specs.Nodes.{kinds_of, part_by, known_by, IsShape}
-use Rattle.aml_space.specs.Nodes.{IsLinked, IsAim, IsIndex, IsKept}
+use Rattle.aml_space.specs.Nodes.{IsLinked, IsIndex, IsKept}
 use Rattle.aml_namespace.specs.Known.{declared_kind}
 use Rattle.aml_children.proofs.Family.{same_itself, found_put, wider_family, family_put}
 use Rattle.aml_space.proofs.Index.{part_at}
 use Rattle.aml_children.proofs.Walks.{kid_range, node_range, walk_push}
 use Rattle.aml_children.proofs.Visiting.{links_on}
+use Rattle.aml_space.specs.Nodes.{AreAmong, paths_in, said_by, said_in}
+use Rattle.std.proofs.Common.{IfSome, drop}
+use Rattle.aml_space.proofs.Targets.{among_more, grown_paths, paths_long, said_grown}
+use Rattle.std.specs.Option.{option_map}
+use Rattle.aml_namespace.specs.declared.kinds.Kind.{Kind as KindOf}
+use Rattle.aml_namespace.specs.Known.{Said}
 
 -- new has the nodes of old and an empty one after them, a child of node i
 pub record HasGrown (old new : List Node) (i : ℕ) (seg : Seg) : Type 0 where
@@ -170,13 +176,17 @@ module _ (ns new : List Node) (i : ℕ) (seg : Seg) (is : IsIndex ns) (within : 
     lower = lower;
   }
 
-  aimed : (k : ℕ) → IsAim new (kinds_of new k) (content_of new k).aim
-  aimed k = elim (cases_lt k (length ns)) [
-    | inl inside ↦ subst (λ (c : Content). IsAim new (declared_kind c.declared) c.aim) (sym (has.contents k inside))
-        (λ some. let a = is.aimed k some in (a.0, a.1, a.2, still a.1 (content_of ns k).aim a.3))
-    | inr past ↦ λ some. absurd (omega (arith, some, ap (λ (c : Content). c.aim) (none k past)))
+  targets : (k : ℕ) → IfSome (content_of new k).declared (AreAmong (length new))
+  targets k = elim (cases_lt k (length ns)) [
+    | inl inside ↦ subst (λ (c : Content). IfSome c.declared (AreAmong (length new))) (sym (has.contents k inside))
+        (more (content_of ns k).declared (is.targets k))
+    | inr past ↦ subst (λ (c : Content). IfSome c.declared (AreAmong (length new))) (sym (none k past)) tt
   ]
     where
+      more : (o : Option (Said (KindOf ℕ))) → IfSome o (AreAmong (length ns)) → IfSome o (AreAmong (length new))
+      more None among = tt
+      more (Some d) among = among_more (length ns) (length new) (omega (arith, has.long)) d among
+
       none : (k : ℕ) → length ns ≤ k → content_of new k ≡ nothing
       none k past = elim (cases_lt (length ns) k) [
         | inl far ↦ ap content_in (slice_get_past new k (omega (arith, far, has.long)))
@@ -221,29 +231,44 @@ module _ (ns new : List Node) (i : ℕ) (seg : Seg) (is : IsIndex ns) (within : 
   ]
 
   pub grown_index : IsIndex new
-  grown_index = record { shape = shape; linked = linked; aimed = aimed; there = there; deep = deep; few = omega (arith, has.long, room) }
+  grown_index = record { shape = shape; linked = linked; targets = targets; there = there; deep = deep; few = omega (arith, has.long, room) }
 
-  grown_part : {X : Type 0} (part : Content → Option X) → part nothing ≡ None → part_by part new ≡ part_by part ns
-  grown_part {X} part none = map.same_map paths_total exact_paths _ _ (λ q. sym (part_at part new shape q) ∙ same q ∙ part_at part ns is.shape q)
+  -- a part of the new nodes is one of the old ones where it is the same at each of these
+  grown_part : {X : Type 0} (part before : Content → Option X) → part nothing ≡ None
+      → ((k : ℕ) → part (content_of ns k) ≡ before (content_of ns k)) → part_by part new ≡ part_by before ns
+  grown_part {X} part before none alike = map.same_map paths_total exact_paths _ _ (λ q. sym (part_at part new shape q) ∙ same q ∙ part_at before ns is.shape q)
     where
       old : (q : List Seg) (o : Option ℕ) → walk (kids_of ns) 0 q ≡ o →
-          option_and_then (λ k. part (content_of new k)) o ≡ option_and_then (λ k. part (content_of ns k)) o
+          option_and_then (λ k. part (content_of new k)) o ≡ option_and_then (λ k. before (content_of ns k)) o
       old q None e = refl
-      old q (Some k) e = ap part (has.contents k (node_range is.shape q k e))
+      old q (Some k) e = ap part (has.contents k (node_range is.shape q k e)) ∙ alike k
 
       same : (q : List Seg) → option_and_then (λ k. part (content_of new k)) (walk (kids_of new) 0 q)
-          ≡ option_and_then (λ k. part (content_of ns k)) (walk (kids_of ns) 0 q)
+          ≡ option_and_then (λ k. before (content_of ns k)) (walk (kids_of ns) 0 q)
       same q = elim (grown_walk 0 q is.shape.rooted) [
         | inl kept ↦ ap (option_and_then (λ k. part (content_of new k))) kept ∙ old q _ refl
         | inr w ↦ ap (option_and_then (λ k. part (content_of new k))) w.1 ∙ ap part has.no_content ∙ none
-            ∙ sym (ap (option_and_then (λ k. part (content_of ns k))) w.0)
+            ∙ sym (ap (option_and_then (λ k. before (content_of ns k))) w.0)
       ]
+
+  -- the paths of nodes stay, and with them those of Aliases' targets
+  more_paths : (more : List (List Seg)) × (paths_in new ≡ paths_in ns ++ more)
+  more_paths = (drop (length ns) (paths_in new), grown_paths ns new (omega (arith, has.long)) same_path)
+
+  said_still : (k : ℕ) → said_by new (content_of ns k) ≡ said_by ns (content_of ns k)
+  said_still k = by (content_of ns k).declared (is.targets k)
+    where
+      by : (o : Option (Said (KindOf ℕ))) → IfSome o (AreAmong (length ns))
+          → option_map (said_in (paths_in new)) o ≡ option_map (said_in (paths_in ns)) o
+      by None among = refl
+      by (Some d) among = ap (λ paths. Some (said_in paths d)) more_paths.1
+          ∙ ap Some (said_grown (paths_in ns) more_paths.0 d (subst (λ n. AreAmong n d) (sym (paths_long ns)) among))
 
   pub grown_known : known_by new ≡ known_by ns
   grown_known = λ t. record {
-    declarations = grown_part (λ c. c.declared) refl t;
-    outs = grown_part (λ c. c.out) refl t;
-    givens = grown_part (λ c. c.given) refl t;
+    declarations = grown_part (said_by new) (said_by ns) refl said_still t;
+    outs = grown_part (λ c. c.out) (λ c. c.out) refl (λ k. refl) t;
+    givens = grown_part (λ c. c.given) (λ c. c.given) refl (λ k. refl) t;
     scopes = [];
     paths = [];
   }

@@ -10,7 +10,7 @@ use Rattle.std.specs.FinSet as set
 use Rattle.aml_names.specs.declared.segments.Seg.{Seg}
 use Rattle.aml_names.specs.Paths.{PathSet}
 use Rattle.aml_names.specs.Searching.{upward}
-use Rattle.aml_namespace.specs.declared.kinds.Kind.{Kind}
+use Rattle.aml_namespace.specs.Kinds.{Kind}
 use Rattle.aml_namespace.specs.declared.kinds.Kind.TheVariants.{Method, Alias}
 use Rattle.aml_space.specs.declared.nodes.Node.{Node}
 use Rattle.aml_space.specs.declared.scopes.Candidate.{Candidate}
@@ -20,7 +20,7 @@ use Rattle.aml_namespace.specs.Namespace.{decides, is_outside}
 use Rattle.aml_namespace.specs.Known.{namespace_in}
 use Rattle.aml_namespace.specs.Runs.{is_known}
 use Rattle.aml_children.specs.Numbered.{walk}
-use Rattle.aml_space.specs.Nodes.{kids_of, kinds_of, declared_of, outs_of, known_by, IsShape}
+use Rattle.aml_space.specs.Nodes.{kids_of, kinds_of, declared_of, outs_of, said_by, known_by, IsShape}
 use Rattle.aml_space.specs.Candidates.{path_at, IsCandidate}
 use Rattle.aml_children.proofs.Basics.{cond_of}
 use Rattle.aml_space.proofs.Index.{part_at, kind_at_path}
@@ -33,7 +33,7 @@ module _ (ns : List Node) (shape : IsShape ns) (p : List Seg) (node : Option ℕ
   kind_of_met standing is = ap (λ o. option_or (option_and_then (kinds_of ns) o) standing) met ∙ (λ i. option_or (kind_at_path ns shape p i) (is i))
 
   pub declared_there : option_and_then (declared_of ns) node ≡ map.get (known_by ns).declarations p
-  declared_there = ap (option_and_then (declared_of ns)) met ∙ part_at (λ c. c.declared) ns shape p
+  declared_there = ap (option_and_then (declared_of ns)) met ∙ part_at (said_by ns) ns shape p
 
   pub out_of_met : option_and_then (outs_of ns) node ≡ map.get (known_by ns).outs p
   out_of_met = ap (option_and_then (outs_of ns)) met ∙ part_at (λ c. c.out) ns shape p

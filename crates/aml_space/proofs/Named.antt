@@ -67,6 +67,17 @@ module _ (ns : List Node) (is : IsIndex ns) where
   one_longer j l some within here = ap length (sym (step_up j l [] some within here ∙ append-nil (path_of ns j)))
       ∙ length-append (path_of ns l.0) (l.1 ∷ [])
 
+  -- a path of one segment is that by which its node is a child
+  pub only_segment : (j : ℕ) → j < length ns → length (path_of ns j) ≡ 1 → path_of ns j ≡ (links_of ns j).1 ∷ []
+  only_segment j within one =
+      let some = not_root ns j (omega (arith, one)) in
+      let above : length (path_of ns (links_of ns j).0) ≡ 0 = omega (arith, one, one_longer j (links_of ns j) some within refl) in
+      path_on j some within ∙ ap (λ q. q ++ (links_of ns j).1 ∷ []) (no_segment (path_of ns (links_of ns j).0) above)
+    where
+      no_segment : (q : List Seg) → length q ≡ 0 → q ≡ []
+      no_segment [] none = refl
+      no_segment (s ∷ q) none = absurd (omega (arith, none))
+
   led_on : (i : ℕ) (q : List Seg) (j : ℕ) → walk (kids_of ns) i q ≡ Some j → path_of ns j ≡ path_of ns i ++ q
   led_on i [] j led = ap (path_of ns) (sym (same_Some i j led)) ∙ sym (append-nil (path_of ns i))
   led_on i (s ∷ q) j led = by (child_in (kids_of ns i) s) refl led (λ k. led_on k q j)

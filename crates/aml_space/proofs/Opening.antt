@@ -1,7 +1,7 @@
 -- Scopes that are open lead to their nodes also where paths keep theirs (`kept_opened`), as they do where other
 -- content comes to a node (`content_kept`), and by one step behind another (`kept_on`); and so does one more
 -- (`more_opened`). Their nodes' numbers are theirs (`open_number`). Numbers stand for the same paths then (`known_again`); a path's is its
--- node's (`numbered`). The node of what an Alias stands for is told by its source (`aim_kept`, `aim_here`).
+-- node's (`numbered`). 
 use Rattle.std.specs.Prelude.{slice_get}
 use Rattle.std.specs.FinMap as map
 use Rattle.std.proofs.Common.{◌≡◌, ℕ, zero, suc, List, [], ◌∷◌, ◌++◌, Option, Some, None, IfSome, refl, sym, ap, subst, ◌∙◌}
@@ -18,23 +18,26 @@ use Rattle.aml_space.specs.declared.opened.Opened.{Opened}
 use Rattle.aml_children.specs.Numbered.{walk}
 use Rattle.std.specs.Option.{option_map, option_or, option_and_then, unwrap_or}
 use Rattle.std.proofs.lemmas.Option.{slice_get_read, slice_get-map}
-use Rattle.aml_namespace.specs.declared.kinds.Kind.{Kind}
+use Rattle.aml_namespace.specs.Kinds.{Kind}
 use Rattle.aml_namespace.specs.declared.kinds.Kind.TheVariants.{Alias}
 use Rattle.aml_namespace.specs.Namespace.{kind_at}
 use Rattle.aml_namespace.specs.Known.{Known, Grows, namespace_in, with_scopes, with_paths}
 use Rattle.aml_namespace.specs.Predefined.{predefined}
 use Rattle.aml_namespace.specs.Runs.{is_alias}
 use Rattle.aml_namespace.proofs.Said.{no_alias}
-use Rattle.aml_space.specs.Near.{IsNear, IsTarget}
+use Rattle.aml_space.specs.Near.{IsNear}
 use Rattle.aml_space.specs.declared.opened.Near.{Near}
-use Rattle.aml_space.specs.Nodes.{kids_of, kinds_of, known_by, path_of, Content, HasContent, IsAim, IsIndex, IsKept}
+use Rattle.aml_space.specs.Nodes.{kids_of, kinds_of, known_by, path_of, Content, HasContent, IsIndex, IsKept}
 use Rattle.aml_space.proofs.Index.{kind_at_path}
 use Rattle.aml_space.specs.declared.ways.Ways.{Ways}
-use Rattle.aml_space.specs.Opened.{AreOpened, IsSpace, known_in, paths_in, scopes_of}
+use Rattle.aml_space.specs.Opened.{AreOpened, IsSpace, known_in, scopes_of}
 use Rattle.aml_space.proofs.Named.{path_led}
 use Rattle.aml_space.proofs.Stepping.{ways_kept}
 use Rattle.aml_children.proofs.Basics.{each_more}
 use Rattle.aml_children.proofs.Walks.{node_range}
+use Rattle.aml_space.specs.Nodes.{paths_in}
+use Rattle.std.proofs.lemmas.Option.{slice_get-get_or}
+use Rattle.aml_space.proofs.Targets.{grown_paths, path_read, paths_long}
 
 kept_at : (old new : List Node) (o : Option Opened) → IsKept old new
     → IfSome o (λ o. walk (kids_of old) 0 o.scope ≡ Some o.node)
@@ -63,14 +66,9 @@ still_path : (old new : List Node) → IsIndex old → IsIndex new → IsKept ol
 still_path old new was is kept i within = path_led new is (path_of old i) i (kept.there (path_of old i) i (was.there i within))
 
 -- so a number stands for the same path
-more_paths : (old new : List Node) → IsIndex old → IsIndex new → IsKept old new
+pub more_paths : (old new : List Node) → IsIndex old → IsIndex new → IsKept old new
     → paths_in new ≡ paths_in old ++ drop (length old) (paths_in new)
-more_paths old new was is kept =
-    let n = length old in
-    let front : take n (paths_in new) ≡ paths_in old = take-map-range_with_len (path_of new) 0 (length new) n kept.long
-    ∙ fill_by_all (path_of old) _ n [] (length-map-range_with_len (path_of new) 0 n) (λ i within.
-    get_or-map-range_with_len (path_of new) 0 n i i [] within (omega arith) ∙ still_path old new was is kept i within) in
-    sym (take-append-drop n (paths_in new)) ∙ ap (λ ps. ps ++ drop n (paths_in new)) front
+more_paths old new was is kept = grown_paths old new kept.long (still_path old new was is kept)
 
 -- so what is kept besides the nodes stays right
 pub still_space : (old new : List Node) (before many : ℕ) (inside : List Opened) (ways : Ways) → IsIndex new
@@ -95,8 +93,8 @@ pub numbered : (ns : List Node) → IsIndex ns → (path : List Seg) (at : ℕ) 
     → slice_get (paths_in ns) at ≡ Some path
 numbered ns is path at led =
     let within = node_range is.shape path at led in
-    slice_get_read (paths_in ns) (length ns) at path (sym (length-map-range_with_len (path_of ns) 0 (length ns))) within
-    (sym (get_or-map-range_with_len (path_of ns) 0 (length ns) at at path within (omega arith) ∙ path_led ns is path at led))
+    slice_get-get_or (paths_in ns) at [] (subst (λ n. at < n) (sym (paths_long ns)) within)
+    ∙ ap (λ p. Some p) (path_read ns at within ∙ path_led ns is path at led)
 
 -- the number of a scope that is open stands for its path
 pub open_number : (ns : List Node) (scopes : List Opened) (k : Known) (place : ℕ) (o : Opened) (scope : List Seg) → IsIndex ns
@@ -187,57 +185,3 @@ near_first scopes near first path count is place front short long = record {
   common = subst (λ n. HasCommon (slice_get scopes n) first.front (take count path)) (sym place)
       (common_first (slice_get scopes near.place) near.front first.front count path front short is.common);
 }
-
--- where a node is kept for an Alias, its target leads to it
-pub aim_leads : (ns : List Node) (kind : Option Kind) (aim : ℕ) → IsAim ns kind aim → (is_open : Bool) (target : List Seg)
-    → kind ≡ Some (Alias is_open target) → 0 < aim
-    → walk (kids_of ns) 0 target ≡ Some aim
-aim_leads ns kind aim is is_open target same some = let a = is some in
-    subst (λ t. walk (kids_of ns) 0 t ≡ Some aim) (ap target_in (sym a.2 ∙ same)) a.3
-  where
-    target_in : Option Kind → List Seg
-    target_in (Some (Alias is_open target)) = target
-    target_in _ = []
-
--- What an Alias of a source stands for, by the source's node: where the source is an Alias, the node that is kept of
--- this leads there, and else the source's own.
-module _ (ns : List Node) (is : IsIndex ns) (source target : List Seg) (node : Option ℕ) (led : node ≡ walk (kids_of ns) 0 source)
-    (aims : IsTarget (namespace_in (known_by ns)) source target) where
-  kind_there : kind_at (namespace_in (known_by ns)) source ≡ option_or (option_and_then (kinds_of ns) node) (predefined source)
-  kind_there = ap (λ o. option_or o (predefined source)) (sym (kind_at_path ns is.shape source) ∙ ap (option_and_then (kinds_of ns)) (sym led))
-
-  -- an Alias of it, open or not
-  abbrev IsAimOf : ℕ → Type 0
-  IsAimOf aim = (is_open : Bool) → IsAim ns (Some (Alias is_open target)) aim
-
-  pub aim_kept : (is_open : Bool) (own : List Seg) (aim : ℕ)
-      → option_and_then (kinds_of ns) node ≡ Some (Alias is_open own)
-      → IsAim ns (option_and_then (kinds_of ns) node) aim → IsAimOf aim
-  aim_kept is_open own aim has kept other some = (
-    other,
-    target,
-    refl,
-    ap (walk (kids_of ns) 0) (aims.alias is_open own (kind_there ∙ ap (λ o. option_or o (predefined source)) has))
-        ∙ aim_leads ns _ aim kept is_open own has some,
-  )
-
-  pub aim_here : (aim : ℕ)
-      → ((is_open : Bool) (own : List Seg) → option_and_then (kinds_of ns) node ≡ Some (Alias is_open own) → ⊥)
-      → aim ≡ unwrap_or node 0 → IsAimOf aim
-  aim_here aim other at any some = (
-    any,
-    target,
-    refl,
-    ap (walk (kids_of ns) 0) (aims.other (λ is_open own alias. by (option_and_then (kinds_of ns) node) refl is_open own (sym kind_there ∙ alias)))
-        ∙ sym led ∙ there node at,
-  )
-    where
-      by : (o : Option Kind) → option_and_then (kinds_of ns) node ≡ o → (is_open : Bool) (own : List Seg)
-          → option_or o (predefined source) ≡ Some (Alias is_open own) → ⊥
-      by None none is_open own alias =
-          false≢true (sym (subst (λ o. IfSome o (λ k. is_alias k ≡ false)) alias (no_alias source)))
-      by (Some k) has is_open own alias = other is_open own (has ∙ alias)
-
-      there : (o : Option ℕ) → aim ≡ unwrap_or o 0 → o ≡ Some aim
-      there None is = absurd (omega (arith, is, some))
-      there (Some i) is = ap (λ (n : ℕ). Some n) (sym is)

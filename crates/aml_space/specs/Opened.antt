@@ -1,6 +1,5 @@
 -- A stepping stone of the proofs: the scopes that are open, with their nodes.
 use Rattle.std.specs.Prelude.{◌≡◌, ℕ, List, length, map as map_list, slice_get, Some, IfSome}
-use Rattle.std.specs.List.{range_with_len}
 use Rattle.std.specs.FinMap as map
 use Rattle.aml_names.specs.declared.segments.Seg.{Seg}
 use Rattle.aml_space.specs.declared.nodes.Node.{Node}
@@ -11,7 +10,7 @@ use Rattle.aml_space.specs.Candidates.{AreSteps, AreWays}
 use Rattle.aml_namespace.specs.Known.{Known}
 use Rattle.aml_namespace.specs.Known.{with_scopes, with_paths}
 use Rattle.aml_children.specs.Numbered.{walk}
-use Rattle.aml_space.specs.Nodes.{kids_of, known_by, path_of, IsIndex}
+use Rattle.aml_space.specs.Nodes.{kids_of, known_by, paths_in, IsIndex}
 
 -- each of these scopes leads to the node that is kept with it
 abbrev pub AreOpened : List Node → List Opened → Type 0
@@ -20,10 +19,6 @@ AreOpened ns opened = (i : ℕ) → IfSome (slice_get opened i) (λ o. walk (kid
 -- the paths of scopes
 abbrev pub scopes_of : List Opened → List (List Seg)
 scopes_of opened = map_list (λ (o : Opened). o.scope) opened
-
--- the paths of all nodes, by their numbers
-abbrev pub paths_in : List Node → List (List Seg)
-paths_in ns = map_list (path_of ns) (range_with_len 0 (length ns))
 
 -- what nodes know, with the scopes that are open
 abbrev pub known_in : List Node → List Opened → Known

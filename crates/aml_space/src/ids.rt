@@ -1,70 +1,23 @@
-//! Paths by number.
-ghost use Rattle.std.specs.Prelude.{◌≡◌, ◌<◌, ◌^◌, ◌-◌, length, take, drop, min, nat_eq, get_or, [], IfOk};
-ghost use Rattle.aml_space.specs.Nodes.{path_of, IsIndex};
-ghost use Rattle.aml_space.specs.Opened.{paths_in};
+//! The paths of nodes.
+ghost use Rattle.std.specs.Prelude.{◌≡◌, ◌<◌, ◌-◌, length, take, drop, min, IfOk};
+ghost use Rattle.aml_namespace.specs.Kinds.{target_in};
+ghost use Rattle.aml_space.specs.Nodes.{path_of, paths_in, IsIndex};
 
 use crate::nodes::Node;
 use crate::parents::{ancestor, depth_at, fill};
 use aml_names::{NoMemory, Path, Seg};
+use aml_namespace::PathId;
 use std::alloc::Global;
 use std::marker::Model;
 
-/// A path of a space, by the number of its node. It stands for the same path while the space grows.
-#[derive(Clone, Copy)]
-pub struct PathId(u32);
-
-impl Model for PathId {
-    ghost use Rattle.std.specs.Prelude.{ℕ};
-    ghost use Rattle.std.specs.Coded.{coded_ℕ};
-
-    ghost Value = { ℕ };
-
-    ghost coded = { coded_ℕ };
-
-    ghost view = { λ p. p.0 };
-
-    ghost inverse = { λ n. record { 0 = n } };
-}
-
-impl PathId {
-    /// The root's.
-    pub(crate) fn root() -> PathId
-        ensures { result ≡ 0 }
-    {
-        PathId(0)
-    }
-
-    pub(crate) fn new(number: usize) -> PathId
-        requires { number < 2 ^ 32 }
-        ensures { result ≡ number }
-    {
-        PathId(number as u32)
-    }
-
-    /// Whether it is the same number.
-    pub fn is(self, other: PathId) -> bool
-        ensures { result ≡ nat_eq self other }
-    {
-        self.0 == other.0
-    }
-
-    /// The place of the node.
-    pub(crate) fn index(self) -> usize
-        ensures number { result ≡ self }
-        ensures fits { self < 2 ^ 32 }
-    {
-        self.0 as usize
-    }
-
-    /// The node of the path; the root where no node has this number.
-    pub(crate) fn node(self, nodes: &[Node]) -> usize
-        requires { IsIndex nodes.now }
-        ensures path { path_of nodes.now result ≡ get_or (paths_in nodes.now) self [] }
-        ensures within { result < length nodes.now }
-    {
-        let at = self.index();
-        if at < nodes.len() { at } else { 0 }
-    }
+/// The node of the path of a number; the root where no node has it.
+pub(crate) fn numbered(nodes: &[Node], id: PathId) -> usize
+    requires { IsIndex nodes.now }
+    ensures path { path_of nodes.now result ≡ target_in (paths_in nodes.now) id }
+    ensures within { result < length nodes.now }
+{
+    let at = id.index();
+    if at < nodes.len() { at } else { 0 }
 }
 
 /// A path of a space. It keeps no segments of its own: each is that by which a node is a child of its parent.

@@ -21,13 +21,13 @@ mod walking;
 mod ways;
 
 pub use aml_namespace::{
-    Kind, SpaceRow, Target, every_run_agrees, every_run_leads_there, quick_way_holds,
+    Kind, PathId, SpaceRow, every_run_agrees, every_run_leads_there, quick_way_holds,
     rows_are_declared, runs_differ, stays_as_it_is, sure_stays,
 };
 pub use bodies::{BodyNames, BodyScope};
 pub use faults::SpaceFault;
-pub use ids::{PathId, SpacePath};
+pub use ids::SpacePath;
 pub use listing::Rows;
-pub use opened::{Near, PlacedPath, Source, is_long};
+pub use opened::{Near, PlacedPath, is_long};
 pub use rows::Row;
 pub use spaces::Space;

@@ -2,10 +2,9 @@
 ghost use Rattle.std.specs.Prelude.{◌≡◌};
 ghost use Rattle.aml_space.specs.Nodes.{empty};
 
-use crate::ids::PathId;
 use aml_children::Children;
 use aml_names::Seg;
-use aml_namespace::Declarations;
+use aml_namespace::{Declarations, PathId};
 
 /// A node of the index. It stands for one path.
 #[derive(Drop)]
@@ -23,14 +22,12 @@ pub(crate) struct Node {
     pub depth: u32,
     /// The number of its parent; the root is its own.
     pub parent: PathId,
-    /// Of an Alias, the node of what it stands for; 0 where none is kept, since the root's is found at once.
-    pub aim: usize,
     /// The nodes below.
     pub children: Children,
 }
 
 // Each segment of a path has a node, and a path may have many thousands.
-const _: () = prove!(size_of::<Node>() == 64);
+const _: () = prove!(size_of::<Node>() == 56);
 
 impl Node {
     /// A node without content, a child of its parent by a segment.
@@ -44,7 +41,6 @@ impl Node {
             seg,
             depth,
             parent,
-            aim: 0,
             children: Children::new(),
         }
     }

@@ -1,22 +1,19 @@
 //! The scopes that are open, by whose nodes the paths below them are found.
-ghost use Rattle.std.specs.Prelude.{◌≡◌, ◌+◌, ◌<◌, ◌≤◌, ◌++◌, Bool, List, Some, length, take, IfOk, IfSome};
+ghost use Rattle.std.specs.Prelude.{◌≡◌, ◌+◌, ◌<◌, ◌≤◌, ◌++◌, List, Some, length, take, IfOk, IfSome};
 ghost use Rattle.aml_names.specs.declared.segments.Seg.{Seg as AnySeg};
 ghost use Rattle.aml_children.specs.Numbered.{walk};
-ghost use Rattle.aml_namespace.specs.declared.kinds.Kind.TheVariants.{Alias};
-ghost use Rattle.aml_namespace.specs.Known.{namespace_in};
-ghost use Rattle.aml_space.specs.Nodes.{kids_of, links_of, known_by, IsAim, IsIndex, Reaches};
+ghost use Rattle.aml_space.specs.Nodes.{kids_of, links_of, IsIndex, Reaches};
 ghost use Rattle.aml_space.specs.Candidates.{AreSteps};
-ghost use Rattle.aml_space.specs.Near.{IsOpen, IsNear, IsBelow, IsTarget, IsSourceOf};
+ghost use Rattle.aml_space.specs.Near.{IsOpen, IsNear, IsBelow};
 ghost use Rattle.aml_space.specs.Opened.{AreHints, scopes_of};
 
-use crate::growing::{Aimed, Reach};
-use crate::ids::PathId;
+use crate::growing::Reach;
 use crate::nodes::Node;
 use crate::parents::link;
-use crate::walking::{aim_at, child, kind_at};
+use crate::walking::child;
 use crate::ways::stepped;
 use aml_names::{NoMemory, Parts, ScopedPath, Seg};
-use aml_namespace::Kind;
+use aml_namespace::PathId;
 use std::alloc::Global;
 
 /// A scope that is open, and its node.
@@ -92,13 +89,6 @@ impl PlacedPath {
             front: self.front,
         }
     }
-}
-
-/// What an Alias is declared of, near a scope that is open: it stands for that, or for an Alias' own target.
-#[derive(Clone, Copy)]
-pub struct Source<'a> {
-    pub near: Near,
-    pub path: &'a ScopedPath,
 }
 
 /// What is kept besides the nodes, by which they are found sooner.
@@ -217,14 +207,6 @@ fn reach_of_near(nodes: &[Node], hints: Hints<'_>, near: Near, path: &Parts<'_>)
     }
 }
 
-/// How far a path leads from the root.
-pub(crate) fn reach_whole(nodes: &[Node], path: &Parts<'_>) -> Reach
-    requires { IsIndex nodes.now }
-    ensures { Reaches nodes.now path.now result }
-{
-    reach_on(nodes, Reach { node: 0, known: 0 }, path)
-}
-
 /// How far a path leads that is near a scope that is open.
 pub(crate) fn reach_near(nodes: &[Node], hints: Hints<'_>, near: Near, path: &Parts<'_>) -> Reach
     requires index { IsIndex nodes.now }
@@ -276,48 +258,6 @@ pub(crate) fn node_near(
         Some(reach.node)
     } else {
         None
-    }
-}
-
-/// The node of what an Alias of a source stands for, or 0 where there is none: that of the source, or the one that is
-/// kept of an Alias.
-pub(crate) fn aim_by(nodes: &[Node], hints: Hints<'_>, source: Source<'_>) -> usize
-    requires index { IsIndex nodes.now }
-    requires hints { AreHints nodes.now hints }
-    requires near { IsNear (scopes_of hints.scopes.now) source.near source.path.now }
-    ensures { (is_open : Bool) (t : List AnySeg) → IsTarget (namespace_in (known_by nodes.now)) source.entry.path.now t →
-        IsAim nodes.now (Some (Alias is_open t)) result }
-{
-    let node = node_near(nodes, hints, source.near, &source.path.parts());
-    match kind_at(nodes, node) {
-        None => node.unwrap_or(0),
-        Some(kind) => match kind {
-            Kind::Alias { .. } => aim_at(nodes, node),
-            _ => node.unwrap_or(0),
-        },
-    }
-}
-
-/// A kind, with that node where its source is told.
-pub(crate) fn aimed_by(
-    nodes: &[Node],
-    hints: Hints<'_>,
-    kind: Kind,
-    source: Option<Source<'_>>,
-) -> Aimed
-    requires index { IsIndex nodes.now }
-    requires hints { AreHints nodes.now hints }
-    requires source { IfSome source
-        (IsSourceOf (scopes_of hints.scopes.now) (namespace_in (known_by nodes.now)) kind) }
-    ensures kind { result.kind ≡ kind }
-    ensures aim { IsAim nodes.now (Some kind) result.aim }
-{
-    match source {
-        None => Aimed { kind, aim: 0 },
-        Some(source) => Aimed {
-            kind,
-            aim: aim_by(nodes, hints, source),
-        },
     }
 }
 

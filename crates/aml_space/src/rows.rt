@@ -1,9 +1,10 @@
 //! The declared paths, and what their declarations say.
 ghost use Rattle.std.specs.Prelude.{◌≡◌, ◌<◌, length};
-ghost use Rattle.aml_space.specs.Nodes.{path_of, IsIndex};
+ghost use Rattle.aml_space.specs.Nodes.{path_of, paths_in, said_in, IsIndex};
 
 use crate::ids::SpacePath;
 use crate::nodes::Node;
+use crate::walking::seen_kind;
 use aml_namespace::{Declarations, Kind};
 use std::marker::Model;
 
@@ -20,13 +21,13 @@ impl<'a> Model for Row<'a> {
     ghost use Rattle.std.specs.Prelude.{List, ◌<◌, length};
     ghost use Rattle.aml_names.specs.declared.segments.Seg.{Seg};
     ghost use Rattle.aml_namespace.specs.Known.{Declared, coded_row};
-    ghost use Rattle.aml_space.specs.Nodes.{path_of, IsIndex};
+    ghost use Rattle.aml_space.specs.Nodes.{path_of, paths_in, said_in, IsIndex};
 
     ghost Value = { List Seg × Declared };
 
     ghost coded = { coded_row };
 
-    ghost view = { λ s. (path_of s.nodes.now s.at, s.said.now) };
+    ghost view = { λ s. (path_of s.nodes.now s.at, said_in (paths_in s.nodes.now) s.said.now) };
 
     ghost invariant = { λ s. IsIndex s.nodes.now × (s.at < length s.nodes.now) };
 }
@@ -36,7 +37,7 @@ impl<'a> Row<'a> {
     pub(crate) fn new(nodes: &'a [Node], at: usize, said: &'a Declarations) -> Row<'a>
         requires index { IsIndex nodes.now }
         requires at { at < length nodes.now }
-        ensures { result ≡ (path_of nodes.now at, said.now) }
+        ensures { result ≡ (path_of nodes.now at, said_in (paths_in nodes.now) said.now) }
     {
         Row { nodes, at, said }
     }
@@ -49,10 +50,10 @@ impl<'a> Row<'a> {
     }
 
     /// The kind with which the path is declared first.
-    pub fn kind(&self) -> &'a Kind
-        ensures { result.now ≡ self.now.1.kind }
+    pub fn kind(&self) -> Kind<SpacePath<'a>>
+        ensures { result ≡ self.now.1.kind }
     {
-        self.said.kind()
+        seen_kind(self.nodes, self.said.kind())
     }
 
     /// Whether a declaration is sure.

@@ -5,12 +5,14 @@ ghost use Rattle.std.specs.Prelude.{◌≡◌, true, false, ◌+◌, ◌-◌, �
 ghost use Rattle.std.specs.Prelude.{is_some};
 ghost use Rattle.std.specs.Prelude.{IfOk, IfSome};
 ghost use Rattle.std.specs.Bool.{OnFalse, OnTrue};
-ghost use Rattle.std.specs.Option.{option_or, option_and_then, option_copied, option_map};
+ghost use Rattle.std.specs.Option.{option_or, option_and_then, option_map};
 ghost use Rattle.std.specs.FinSet as set;
-ghost use Rattle.aml_names.specs.declared.segments.Seg.{Seg};
+ghost use Rattle.aml_names.specs.declared.segments.Seg.{Seg as AnySeg};
 ghost use Rattle.aml_names.specs.Names.{placed};
 ghost use Rattle.aml_names.specs.Searching.{upward};
 ghost use Rattle.aml_namespace.specs.Predefined.{predefined};
+ghost use Rattle.aml_namespace.specs.Kinds.{kind_in};
+ghost use Rattle.std.specs.Prelude.{List};
 ghost use Rattle.aml_namespace.specs.Namespace.{first_of, first_given, count_at, kind_at as kind_of_path};
 ghost use Rattle.aml_children.specs.Numbered.{walk};
 ghost use Rattle.aml_space.specs.Nodes.{path_of, kids_of, outs_of, known_by, IsShape, IsIndex, Reaches};
@@ -29,7 +31,7 @@ use crate::seen::{NoLocals, Seen};
 use crate::walking::{child, given_at, node_from, out_at};
 use crate::ways::{Ways, step_from};
 use aml_names::{Name, NoMemory, Parts, Path, Seg};
-use aml_namespace::{Counts, Kind, Predefined};
+use aml_namespace::{Counts, Kind, PathId, predefined_kind};
 use std::alloc::Global;
 
 /// So many levels are looked at one by one before the order of segments is asked, which takes as long.
@@ -40,7 +42,6 @@ pub(crate) const NEAR: usize = 8;
 pub(crate) struct Scope<'a> {
     pub nodes: &'a [Node],
     pub ways: &'a Ways,
-    pub predefined: &'a Predefined,
     /// The last level of its path that stands in the index.
     pub last: Level,
     /// The segments of the path behind that.
@@ -73,7 +74,6 @@ impl<'a> Scope<'a> {
     pub(crate) fn new(
         nodes: &'a [Node],
         ways: &'a Ways,
-        predefined: &'a Predefined,
         path: Parts<'a>,
         reach: Reach,
     ) -> Scope<'a>
@@ -87,7 +87,6 @@ impl<'a> Scope<'a> {
         Scope {
             nodes,
             ways,
-            predefined,
             last: Level {
                 node: reach.node,
                 depth: reach.known,
@@ -101,7 +100,6 @@ impl<'a> Scope<'a> {
     pub(crate) fn at(
         nodes: &'a [Node],
         ways: &'a Ways,
-        predefined: &'a Predefined,
         node: usize,
     ) -> Scope<'a>
         requires index { IsIndex nodes.now }
@@ -115,7 +113,6 @@ impl<'a> Scope<'a> {
         Scope {
             nodes,
             ways,
-            predefined,
             last: Level { node, depth },
             beyond: Parts::whole(&[]),
             len: depth,
@@ -132,7 +129,6 @@ impl<'a> Scope<'a> {
         Scope {
             nodes: self.nodes,
             ways: self.ways,
-            predefined: self.predefined,
             last: self.last,
             beyond: self.beyond.again(),
             len: self.len,
@@ -536,26 +532,28 @@ impl<'a> Scope<'a> {
     }
 
     /// The predefined kind of a candidate.
-    fn standing(&self, segment: &[Seg], depth: usize) -> Option<&Kind>
+    fn standing(&self, segment: &[Seg], depth: usize) -> Option<Kind<PathId>>
         requires one { length segment.now ≡ 1 }
         requires within { depth ≤ length (path_in self.now) }
-        ensures { option_copied result ≡ predefined (take depth (path_in self.now) ++ segment.now) }
+        ensures { (paths : List (List AnySeg)) →
+            option_map (kind_in paths) result ≡ predefined (take depth (path_in self.now) ++ segment.now) }
     {
         if depth == 0 {
-            self.predefined.kind(segment)
+            predefined_kind(segment)
         } else {
             None
         }
     }
 
     /// The predefined kind of some segments behind a front of the scope's path.
-    pub(crate) fn standing_below(&self, depth: usize, segs: &[Seg]) -> Option<&Kind>
+    pub(crate) fn standing_below(&self, depth: usize, segs: &[Seg]) -> Option<Kind<PathId>>
         requires scope { IsScope self.now }
         requires within { depth ≤ length (path_in self.now) }
-        ensures { option_copied result ≡ predefined (take depth (path_in self.now) ++ segs.now) }
+        ensures { (paths : List (List AnySeg)) →
+            option_map (kind_in paths) result ≡ predefined (take depth (path_in self.now) ++ segs.now) }
     {
         if depth == 0 {
-            return self.predefined.kind(segs);
+            return predefined_kind(segs);
         }
         if depth == 1 {
             return self.standing_first(segs);
@@ -564,13 +562,14 @@ impl<'a> Scope<'a> {
     }
 
     /// That of some segments behind the first of its path.
-    fn standing_first(&self, segs: &[Seg]) -> Option<&Kind>
+    fn standing_first(&self, segs: &[Seg]) -> Option<Kind<PathId>>
         requires scope { IsScope self.now }
         requires within { 0 < length (path_in self.now) }
-        ensures { option_copied result ≡ predefined (take 1 (path_in self.now) ++ segs.now) }
+        ensures { (paths : List (List AnySeg)) →
+            option_map (kind_in paths) result ≡ predefined (take 1 (path_in self.now) ++ segs.now) }
     {
         if segs.is_empty() {
-            self.predefined.kind(&[self.segment_at(0)])
+            predefined_kind(&[self.segment_at(0)])
         } else {
             None
         }
@@ -609,12 +608,7 @@ impl<'a> Scope<'a> {
         if here.local {
             return Some(0);
         }
-        count_met(
-            self.nodes,
-            self.predefined,
-            here.node,
-            self.standing(segment, here.depth),
-        )
+        count_met(self.nodes, here.node, self.standing(segment, here.depth))
     }
 
     /// The counts of all that a segment may mean: of each candidate up to and with the first that is one of the locals,
@@ -661,9 +655,11 @@ impl<'a> Scope<'a> {
         ensures sure { result.1 ≡ (outlook_at self.now).sure (take level.depth (path_in self.now) ++ segment.now) }
     {
         let node = self.node_at(segment, level);
-        let standing = self.standing(segment, level.depth);
-        let counts = counts_met(self.nodes, self.predefined, node, standing);
-        (counts, sure_met(self.nodes, node, standing))
+        let counts = counts_met(self.nodes, node, self.standing(segment, level.depth));
+        (
+            counts,
+            sure_met(self.nodes, node, self.standing(segment, level.depth)),
+        )
     }
 
     /// Whether a candidate has a kind in every run.

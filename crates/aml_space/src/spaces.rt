@@ -2,15 +2,16 @@
 ghost use Rattle.std.specs.Prelude.{◌≡◌, ◌<◌, ◌≤◌, ◌*◌, length, slice_get, [], ◌∷◌, ◌++◌, List, Option, true, false};
 ghost use Rattle.std.specs.Prelude.{is_some, not, cond, take, Ok};
 ghost use Rattle.std.specs.Prelude.{map as map_list, ◌⊎◌, OnOk, OnErr, IfOk, IfErr, IfSome, IsTrue};
-ghost use Rattle.std.specs.Option.{option_copied};
+ghost use Rattle.std.specs.Option.{option_map};
 ghost use Rattle.std.specs.FinMap as map;
 ghost use Rattle.aml_namespace.specs.Namespace.{Entry, Body, declares, external as outside, given as said};
-ghost use Rattle.aml_namespace.specs.Namespace.{kind_at, count_at, namespace_of, declared_at};
+ghost use Rattle.aml_namespace.specs.Namespace.{kind_at, count_at, namespace_of, declared_at, target_by};
 ghost use Rattle.aml_namespace.specs.Runs.{outlook_of, sure_at, scope_in, open_in};
 ghost use Rattle.aml_space.specs.Nodes.{known_by};
 ghost use Rattle.aml_namespace.specs.Known.{Grows, StandsAt, path_at, with_scopes, of_paths};
 ghost use Rattle.aml_names.specs.declared.segments.Seg.{Seg as AnySeg};
-ghost use Rattle.aml_space.specs.Near.{IsNear, IsOpen, IsSourceOf};
+ghost use Rattle.aml_space.specs.Near.{IsNear, IsOpen};
+ghost use Rattle.aml_namespace.specs.Kinds.{kind_in, IsAmong};
 ghost use Rattle.aml_space.specs.Candidates.{path_in, names_of, outlook_at, IsScope};
 ghost use Rattle.aml_namespace.specs.Known.{StandsFor, nothing_known, once, with_declaration, with_declared};
 ghost use Rattle.aml_namespace.specs.Known.{with_again};
@@ -20,18 +21,18 @@ ghost use Rattle.aml_namespace.specs.Known.{is_declared as declared_yet, namespa
 use crate::counting::{count_of, open_met, scope_met, sure_met};
 use crate::faults::SpaceFault;
 use crate::growing::{Reach, declare_again, declare_first, extend, is_taken, set_given, set_out};
-use crate::ids::{PathId, SpacePath};
+use crate::ids::{SpacePath, numbered};
 use crate::listing::{Rows, list_rows};
 use crate::nodes::Node;
 use crate::opened::{
-    Hints, Near, Opened, Source, aimed_by, keep_scope, node_near, owed_in, reach_near,
+    Hints, Near, Opened, keep_scope, node_near, owed_in, reach_near,
 };
 use crate::rows::Row;
 use crate::scopes::{NEAR, Scope};
-use crate::walking::{kind_at, walk_counted};
+use crate::walking::{kind_at, seen_kind, walk_counted};
 use crate::ways::Ways;
 use aml_names::{NoMemory, Parts, Path, ScopedPath, Seg};
-use aml_namespace::{Kind, Predefined, SpaceRow};
+use aml_namespace::{Kind, PathId, SpaceRow, predefined_kind, predefined_of};
 use std::alloc::{AllocError, Global};
 use std::marker::Model;
 
@@ -55,7 +56,6 @@ pub struct Space {
     alloc: Global,
     /// The root first. A child has a greater number than its parent.
     pub(crate) nodes: Vec<Node>,
-    pub(crate) predefined: Predefined,
     /// How many paths are declared.
     rows: usize,
     /// The scopes that are open, each inside those before it.
@@ -93,7 +93,6 @@ impl Space {
         Ok(Space {
             alloc,
             nodes,
-            predefined: Predefined::new(),
             rows: 0,
             scopes: Vec::new(alloc),
             ways: Ways::new(alloc),
@@ -104,7 +103,7 @@ impl Space {
 
     /// Declares a path surely. It may be that of a predefined name, once. `Duplicate` where the path is declared
     /// already. A refused declaration changes nothing that is known of paths.
-    pub fn declare(&mut self, path: Path, kind: Kind) -> Result<(), SpaceFault>
+    pub fn declare(&mut self, path: Path, kind: Kind<Path>) -> Result<(), SpaceFault>
         ensures ok { OnOk result (Grows (with_declared self.old path kind) self.new) }
         ensures stands { (es : List Entry) (body : Option Body) → StandsFor self.old es →
             OnOk result (StandsFor self.new (es ++ declares path kind body true ∷ [])) }
@@ -113,7 +112,12 @@ impl Space {
             IsTrue (declared_yet self.old path))) }
         ensures duplicate { IsTrue (declared_yet self.old path) → result ≡ Err (SpaceFault.Duplicate path) }
     {
-        if self.put_once(Near::root(), &path.parts(), kind, None, true)? {
+        let parts = path.parts();
+        if self.declared(Near::root(), &parts).is_some() {
+            return Err(SpaceFault::Duplicate(path));
+        }
+        let kind = self.number_kind(&kind)?;
+        if self.put_once(Near::root(), &parts, kind, true)? {
             Ok(())
         } else {
             Err(SpaceFault::Duplicate(path))
@@ -121,21 +125,19 @@ impl Space {
     }
 
     /// Declares a path that isn't declared yet, surely or not, and answers whether it did: `false` where the path is
-    /// declared already, which takes no memory. A refused call changes nothing that is known of paths. `source`: what
-    /// an Alias is declared of, by which that is found without a search.
+    /// declared already, which takes no memory. A refused call changes nothing that is known of paths.
     pub fn put_once(
         &mut self,
         near: Near,
         path: &Parts<'_>,
-        kind: Kind,
-        source: Option<Source<'_>>,
+        kind: Kind<PathId>,
         surely: bool,
     ) -> Result<bool, NoMemory>
         requires near { IsNear self.old.scopes near path.now }
-        requires source { IfSome source (IsSourceOf self.old.scopes (namespace_in self.old) kind) }
+        requires target { IsAmong (length self.old.paths) kind }
         ensures put { IfOk result (λ put. put ≡ not (declared_yet self.old path.now)) }
         ensures known { IfOk result (λ put.
-            Grows (cond put (with_declaration self.old path.now (once kind surely)) self.old) self.new) }
+            Grows (cond put (with_declaration self.old path.now (once (kind_in self.old.paths kind) surely)) self.old) self.new) }
         ensures err { OnErr result (Grows self.old self.new) }
         ensures taken { IsTrue (declared_yet self.old path.now) → result ≡ Ok false }
         // The same of a list of entries that it stands for.
@@ -143,7 +145,7 @@ impl Space {
             IfOk result (λ put. put ≡ not (is_some (declared_at es path.now))) }
         ensures stands { (es : List Entry) (body : Option Body) → StandsFor self.old es →
             IfOk result (λ put. StandsFor self.new
-            (cond put (es ++ declares path.now kind body surely ∷ []) es)) }
+            (cond put (es ++ declares path.now (kind_in self.old.paths kind) body surely ∷ []) es)) }
     {
         let hints = hints_of!(self);
         let reach = reach_near(self.nodes.as_slice(), hints, near, path);
@@ -153,37 +155,36 @@ impl Space {
         if self.rows == usize::MAX {
             return Err(AllocError);
         }
-        let aimed = aimed_by(self.nodes.as_slice(), hints, kind, source);
-        declare_first(self.alloc, &mut self.nodes, path, aimed, surely, reach)?;
+        declare_first(self.alloc, &mut self.nodes, path, kind, surely, reach)?;
         self.rows += 1;
         Ok(true)
     }
 
     /// Declares a path once more, or for the first time: surely, or so that it stands in some runs of the code outside
     /// methods alone. A refused declaration changes nothing that is known of paths.
-    pub fn declare_again(&mut self, path: Path, kind: Kind, sure: bool) -> Result<(), NoMemory>
+    pub fn declare_again(&mut self, path: Path, kind: Kind<Path>, sure: bool) -> Result<(), NoMemory>
         ensures ok { OnOk result (Grows (with_again self.old path kind sure) self.new) }
         ensures stands { (es : List Entry) (body : Option Body) → StandsFor self.old es →
             OnOk result (StandsFor self.new (es ++ declares path kind body sure ∷ [])) }
         ensures err { OnErr result (Grows self.old self.new) }
     {
-        self.put_again(Near::root(), &path.parts(), kind, None, sure)
+        let kind = self.number_kind(&kind)?;
+        self.put_again(Near::root(), &path.parts(), kind, sure)
     }
 
-    /// The same of a path in parts. `source`: what an Alias is declared of, by which that is found without a search.
+    /// The same of a path in parts.
     pub fn put_again(
         &mut self,
         near: Near,
         path: &Parts<'_>,
-        kind: Kind,
-        source: Option<Source<'_>>,
+        kind: Kind<PathId>,
         sure: bool,
     ) -> Result<(), NoMemory>
         requires near { IsNear self.old.scopes near path.now }
-        requires source { IfSome source (IsSourceOf self.old.scopes (namespace_in self.old) kind) }
-        ensures ok { OnOk result (Grows (with_again self.old path.now kind sure) self.new) }
+        requires target { IsAmong (length self.old.paths) kind }
+        ensures ok { OnOk result (Grows (with_again self.old path.now (kind_in self.old.paths kind) sure) self.new) }
         ensures stands { (es : List Entry) (body : Option Body) → StandsFor self.old es →
-            OnOk result (StandsFor self.new (es ++ declares path.now kind body sure ∷ [])) }
+            OnOk result (StandsFor self.new (es ++ declares path.now (kind_in self.old.paths kind) body sure ∷ [])) }
         ensures err { OnErr result (Grows self.old self.new) }
     {
         let hints = hints_of!(self);
@@ -194,8 +195,7 @@ impl Space {
         if self.rows == usize::MAX {
             return Err(AllocError);
         }
-        let aimed = aimed_by(self.nodes.as_slice(), hints, kind, source);
-        declare_first(self.alloc, &mut self.nodes, path, aimed, sure, reach)?;
+        declare_first(self.alloc, &mut self.nodes, path, kind, sure, reach)?;
         self.rows += 1;
         Ok(())
     }
@@ -310,12 +310,44 @@ impl Space {
         Ok(PathId::new(node))
     }
 
+    /// The number of what an Alias of a path stands for: that of the path, or of its own target where it is an Alias. A
+    /// refused call changes nothing.
+    pub fn number_target(&mut self, near: Near, path: &Parts<'_>) -> Result<PathId, NoMemory>
+        requires { IsNear self.old.scopes near path.now }
+        ensures grows { Grows self.old self.new }
+        ensures ok { IfOk result (λ id. StandsAt self.new id
+            (target_by (kind_at (namespace_in self.old) path.now) path.now)) }
+        ensures err { OnErr result (self.new ≡ self.old) }
+    {
+        match self.declared(near, path) {
+            Some(Kind::Alias { target, .. }) => {
+                let node = numbered(self.nodes.as_slice(), target);
+                Ok(PathId::new(node))
+            }
+            _ => self.number(near, path),
+        }
+    }
+
+    /// A kind with the number of an Alias's target. A refused call changes nothing.
+    fn number_kind(&mut self, kind: &Kind<Path>) -> Result<Kind<PathId>, NoMemory>
+        ensures grows { Grows self.old self.new }
+        ensures ok { IfOk result (λ numbered. kind_in self.new.paths numbered ≡ kind.now) }
+        ensures among { IfOk result (IsAmong (length self.new.paths)) }
+        ensures err { OnErr result (self.new ≡ self.old) }
+    {
+        let target = match kind.target() {
+            None => PathId::root(),
+            Some(path) => self.number(Near::root(), &path.parts())?,
+        };
+        Ok(kind.aimed_at(target))
+    }
+
     /// The path of a number; the root where no path has it.
     pub fn path(&self, id: PathId) -> SpacePath<'_>
         ensures { result ≡ path_at self.now id }
     {
         let nodes = self.nodes.as_slice();
-        SpacePath::new(nodes, id.node(nodes))
+        SpacePath::new(nodes, numbered(nodes, id))
     }
 
     /// Keeps the ways up from all nodes, where searches may go far up, so that names cost the levels alone that have
@@ -343,8 +375,8 @@ impl Space {
     }
 
     /// The kind with which a path is declared, and the comparisons of segments that were made.
-    fn declared_counted(&self, path: &Path) -> (Option<&Kind>, u128)
-        ensures kind { option_copied result.0 ≡ (namespace_in self.now).declared path.now }
+    fn declared_counted(&self, path: &Path) -> (Option<Kind<PathId>>, u128)
+        ensures kind { option_map (kind_in self.now.paths) result.0 ≡ (namespace_in self.now).declared path.now }
         ensures few { result.1 ≤ 64 * length path.now }
     {
         let nodes = self.nodes.as_slice();
@@ -353,9 +385,9 @@ impl Space {
     }
 
     /// The kind with which a path is declared.
-    fn declared(&self, near: Near, path: &Parts<'_>) -> Option<&Kind>
+    fn declared(&self, near: Near, path: &Parts<'_>) -> Option<Kind<PathId>>
         requires { IsNear self.now.scopes near path.now }
-        ensures { option_copied result ≡ (namespace_in self.now).declared path.now }
+        ensures { option_map (kind_in self.now.paths) result ≡ (namespace_in self.now).declared path.now }
     {
         let nodes = self.nodes.as_slice();
         let hints = hints_of!(self);
@@ -363,50 +395,57 @@ impl Space {
     }
 
     /// The kind of a path: the declared one, else the predefined one.
-    pub fn kind(&self, path: &Path) -> Option<&Kind>
-        ensures known { option_copied result ≡ kind_at (namespace_in self.now) path.now }
-        ensures listed { (es : List Entry) → StandsFor self.now es →
-            option_copied result ≡ kind_at (namespace_of es) path.now }
+    pub fn kind(&self, path: &Path) -> Option<Kind<SpacePath<'_>>>
+        ensures known { result ≡ kind_at (namespace_in self.now) path.now }
+        ensures listed { (es : List Entry) → StandsFor self.now es → result ≡ kind_at (namespace_of es) path.now }
     {
-        self.kind_of(&path.parts())
-    }
-
-    /// The same of a path in parts.
-    pub fn kind_of(&self, path: &Parts<'_>) -> Option<&Kind>
-        ensures known { option_copied result ≡ kind_at (namespace_in self.now) path.now }
-        ensures listed { (es : List Entry) → StandsFor self.now es →
-            option_copied result ≡ kind_at (namespace_of es) path.now }
-    {
-        self.kind_near(Near::root(), path)
+        self.kind_near(Near::root(), &path.parts())
     }
 
     /// The same of a path near a scope that is open.
     #[tactic(auto, using(aml_namespace::proofs::Stands::kind_listed))]
-    pub fn kind_near(&self, near: Near, path: &Parts<'_>) -> Option<&Kind>
+    pub fn kind_near(&self, near: Near, path: &Parts<'_>) -> Option<Kind<SpacePath<'_>>>
         requires { IsNear self.now.scopes near path.now }
-        ensures known { option_copied result ≡ kind_at (namespace_in self.now) path.now }
-        ensures listed { (es : List Entry) → StandsFor self.now es →
-            option_copied result ≡ kind_at (namespace_of es) path.now }
+        ensures known { result ≡ kind_at (namespace_in self.now) path.now }
+        ensures listed { (es : List Entry) → StandsFor self.now es → result ≡ kind_at (namespace_of es) path.now }
+    {
+        self.shown(self.kind_by_number(near, path))
+    }
+
+    /// The same, with the number of an Alias's target.
+    fn kind_by_number(&self, near: Near, path: &Parts<'_>) -> Option<Kind<PathId>>
+        requires { IsNear self.now.scopes near path.now }
+        ensures { option_map (kind_in self.now.paths) result ≡ kind_at (namespace_in self.now) path.now }
     {
         match self.declared(near, path) {
             Some(kind) => Some(kind),
-            None => self.predefined.kind_of(path),
+            None => predefined_of(path),
+        }
+    }
+
+    /// A kind with the path of an Alias's target.
+    fn shown(&self, kind: Option<Kind<PathId>>) -> Option<Kind<SpacePath<'_>>>
+        ensures { result ≡ option_map (kind_in self.now.paths) kind }
+    {
+        match kind {
+            None => None,
+            Some(kind) => Some(seen_kind(self.nodes.as_slice(), kind)),
         }
     }
 
     /// What `kind` answers, and how many comparisons of segments the look-up made.
     #[tactic(auto, using(aml_namespace::proofs::Stands::kind_listed))]
-    pub fn kind_counted(&self, path: &Path) -> (Option<&Kind>, u128)
-        ensures known { option_copied result.0 ≡ kind_at (namespace_in self.now) path.now }
-        ensures listed { (es : List Entry) → StandsFor self.now es →
-            option_copied result.0 ≡ kind_at (namespace_of es) path.now }
+    pub fn kind_counted(&self, path: &Path) -> (Option<Kind<SpacePath<'_>>>, u128)
+        ensures known { result.0 ≡ kind_at (namespace_in self.now) path.now }
+        ensures listed { (es : List Entry) → StandsFor self.now es → result.0 ≡ kind_at (namespace_of es) path.now }
         ensures few { result.1 ≤ 64 * length path.now }
     {
         let (declared, compared) = self.declared_counted(path);
-        match declared {
-            Some(kind) => (Some(kind), compared),
-            None => (self.predefined.kind(path.segs()), compared),
-        }
+        let kind = match declared {
+            Some(kind) => Some(kind),
+            None => predefined_kind(path.segs()),
+        };
+        (self.shown(kind), compared)
     }
 
     /// Whether a path is declared, by whatever declaration.
@@ -427,7 +466,7 @@ impl Space {
         let nodes = self.nodes.as_slice();
         let hints = hints_of!(self);
         let node = node_near(nodes, hints, near, path);
-        sure_met(nodes, node, self.predefined.kind_of(path))
+        sure_met(nodes, node, predefined_of(path))
     }
 
     /// Whether a Scope may open a path whatever runs: it has a kind then, and each of its kinds is a scope's (ACPI 6.5,
@@ -440,7 +479,7 @@ impl Space {
         let nodes = self.nodes.as_slice();
         let hints = hints_of!(self);
         let node = node_near(nodes, hints, near, path);
-        scope_met(nodes, node, self.predefined.kind_of(path))
+        scope_met(nodes, node, predefined_of(path))
     }
 
     /// Whether an Alias of a path is open: one of the path's kinds is an Alias that isn't the only kind, or is open.
@@ -452,7 +491,7 @@ impl Space {
         let nodes = self.nodes.as_slice();
         let hints = hints_of!(self);
         let node = node_near(nodes, hints, near, path);
-        open_met(nodes, node, self.predefined.kind_of(path))
+        open_met(nodes, node, predefined_of(path))
     }
 
     /// How many arguments a path takes where the first declaration of a path counts: those of a method, also through an
@@ -463,7 +502,7 @@ impl Space {
         ensures known { result ≡ count_at (namespace_in self.now) path.now }
         ensures listed { (es : List Entry) → StandsFor self.now es → result ≡ count_at (namespace_of es) path.now }
     {
-        count_of(self.nodes.as_slice(), &self.predefined, path)
+        count_of(self.nodes.as_slice(), path)
     }
 
     /// A scope near one that is open.
@@ -478,7 +517,7 @@ impl Space {
         let nodes = self.nodes.as_slice();
         let hints = hints_of!(self);
         let reach = reach_near(nodes, hints, near, &path);
-        Scope::new(nodes, &self.ways, &self.predefined, path, reach)
+        Scope::new(nodes, &self.ways, path, reach)
     }
 
     /// The path of a number, as a scope.
@@ -488,7 +527,7 @@ impl Space {
         ensures path { path_in result ≡ path_at self.now id }
     {
         let nodes = self.nodes.as_slice();
-        Scope::at(nodes, &self.ways, &self.predefined, id.node(nodes))
+        Scope::at(nodes, &self.ways, numbered(nodes, id))
     }
 
     /// How many paths are declared.

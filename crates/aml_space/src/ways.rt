@@ -9,10 +9,10 @@ ghost use Rattle.aml_space.specs.Candidates.{AreEdged, AreSteps, AreWays};
 
 use crate::edges::Edges;
 use crate::growing::Reach;
-use crate::ids::PathId;
 use crate::nodes::Node;
 use crate::parents::{depth_at, link};
 use aml_names::NoMemory;
+use aml_namespace::PathId;
 use std::alloc::Global;
 
 /// By what the next node above another is found that has a child by a segment. A node's is kept once searches want it.

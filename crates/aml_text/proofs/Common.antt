@@ -8,7 +8,7 @@ pub use Rattle.aml_code.specs.declared.tree.Node.{Node}
 pub use Rattle.aml_set.specs.Views.{codes_view, trees_view, table_dumps, table_codes, table_terms}
 pub use Rattle.aml_set.specs.declared.tables.Table.{Table}
 pub use Rattle.aml_names.specs.declared.segments.Seg.{Seg}
-pub use Rattle.aml_namespace.specs.declared.kinds.Kind.{Kind}
+pub use Rattle.aml_namespace.specs.Kinds.{Kind}
 pub use Rattle.aml_text.specs.Listing.{blocks_of, names_in, a_block, blocks_in, blocks_at, indexes_in, whole_text}
 pub use Rattle.asl_text.specs.Bodies.{bodies_lines, block_view}
 pub use Rattle.aml_text.specs.Rows.{row_line}

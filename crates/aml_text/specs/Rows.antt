@@ -1,7 +1,7 @@
 -- The second part of a listing: the namespace, a line for each declared path.
 use Rattle.std.specs.Prelude.{ℕ, Bool, nat_lt, decimal, List, [], ◌++◌, map, flat_map, length, cond}
 use Rattle.aml_names.specs.declared.segments.Seg.{Seg}
-use Rattle.aml_namespace.specs.declared.kinds.Kind.{Kind}
+use Rattle.aml_namespace.specs.Kinds.{Kind}
 use Rattle.aml_namespace.specs.declared.kinds.Kind.TheVariants.{Scope, Name, Method, Alias, Device, Processor}
 use Rattle.aml_namespace.specs.declared.kinds.Kind.TheVariants.{PowerResource, ThermalZone, Mutex, Event, Region}
 use Rattle.aml_namespace.specs.declared.kinds.Kind.TheVariants.{DataRegion, Field, BufferField}

@@ -9,7 +9,7 @@ use Rattle.aml_space.proofs.counting.targets_met.Goals as goal
 pub returns-in-Some : goal.returns-in-Some
 returns-in-Some c =
     let d = c.in-Some.said.now in
-    let standing = option_copied c.args.standing in
+    let standing = c.args.standing in
     c.with_standing.ensures
     ∙ (λ i. cond d.sure (c.tally.ensures i).counts (joined (c.tally.ensures i).counts (c.own_counts-in-Some.ensures i)))
     ∙ sym (targets_declared (d.kind ∷ d.others) (option_to_list standing) d.sure)

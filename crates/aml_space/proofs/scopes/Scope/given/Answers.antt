@@ -23,7 +23,7 @@ none_by (Some x) h = absurd (h x refl)
 
 none_here : (c : In_default)
     → (names_of c.args.self.now).givens (take c.levels.level.depth (path_in c.args.self.now) ++ c.args.segment.now) ≡ None
-none_here c = sym (part_met (λ c. c.given) c.args.self.now.nodes.now c.args.self.now.nodes.now
+none_here c = sym (part_met (λ _ c. c.given) c.args.self.now.nodes.now c.args.self.now.nodes.now
     (take c.levels.level.depth (path_in c.args.self.now) ++ c.args.segment.now) _ c.node_at-node.result c.given_at.result
     c.given_at.ensures c.node_at-node.ensures.node refl refl c.requires.scope.index.shape) ∙ none_by c.given_at.result c.in_default.not-Some
 
@@ -39,7 +39,7 @@ returns-in-Some c =
     let s = c.args.self.now in
     let segment = c.args.segment.now in
     let d = c.levels.level.depth in
-    let here = part_met (λ c. c.given) s.nodes.now s.nodes.now (take d (path_in s) ++ segment) _ c.node_at-node.result c.given_at.result
+    let here = part_met (λ _ c. c.given) s.nodes.now s.nodes.now (take d (path_in s) ++ segment) _ c.node_at-node.result c.given_at.result
     c.given_at.ensures c.node_at-node.ensures.node refl refl c.requires.scope.index.shape in
     sym (same_here (goal.at.returns-in-Some c).After-given_at ∙ here_given (names_of s) set.empty (path_in s) segment d (take d (path_in s) ++ segment)
     c.in-Some.count refl (sym here ∙ c.in-Some.is))

@@ -9,4 +9,4 @@ returns c =
     let front = take c.args.depth (path_in c.args.self.now) in
     let long = length-take-le c.args.depth (path_in c.args.self.now) c.requires.within in
     let deep : 1 < length front = omega (arith, long, c.if-depth-eq0.false, c.if-depth-eq1.false) in
-    sym (predefined_long front c.args.segs.now deep)
+    λ paths. sym (predefined_long front c.args.segs.now deep)

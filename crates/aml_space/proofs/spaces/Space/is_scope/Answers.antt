@@ -6,13 +6,14 @@ use Rattle.aml_namespace.specs.Runs.{Outlook, opens_scope, scope_in}
 use Rattle.aml_space.proofs.Index.{part_met}
 use Rattle.aml_namespace.proofs.Stands.{outlook_listed}
 use Rattle.aml_space.proofs.spaces.Space.is_scope.Goals as goal
+use Rattle.aml_space.specs.Nodes.{paths_in, said_by}
 
 pub returns-clause-known : goal.returns-clause-known
 returns-clause-known c =
-    let said = part_met (λ c. c.declared) _ _ _ _ _ _ refl c.node_near-node.ensures.node c.as_slice-nodes.ensures.value refl
+    let said = part_met said_by _ _ _ _ _ _ refl c.node_near-node.ensures.node c.as_slice-nodes.ensures.value refl
     c.self.invariant.index.shape in
     c.scope_met.ensures
-    ∙ (λ i. sure_by (said i) (c.kind_of.ensures i) && list_all opens_scope (kinds_by (said i) (c.kind_of.ensures i)))
+    ∙ (λ i. sure_by (said i) (c.predefined_of.ensures (paths_in c.as_slice-nodes.result.now) i) && list_all opens_scope (kinds_by (said i) (c.predefined_of.ensures (paths_in c.as_slice-nodes.result.now) i)))
     ∙ ap (λ k. scope_in (outlook_in k) c.args.path.now) c.self.view_is
 
 pub returns-clause-listed : goal.returns-clause-listed

@@ -2,8 +2,8 @@ use Rattle.std.proofs.Common.{take, sym, ap, ◌∙◌}
 use Rattle.std.proofs.lemmas.List.{take-map}
 use Rattle.aml_space.specs.declared.opened.Opened.{Opened}
 use Rattle.aml_namespace.specs.Known.{with_scopes, with_paths}
-use Rattle.aml_space.specs.Nodes.{known_by}
-use Rattle.aml_space.specs.Opened.{scopes_of, paths_in}
+use Rattle.aml_space.specs.Nodes.{known_by, paths_in}
+use Rattle.aml_space.specs.Opened.{scopes_of}
 use Rattle.aml_space.proofs.spaces.Space.leave.Goals as goal
 
 pub returns : goal.returns

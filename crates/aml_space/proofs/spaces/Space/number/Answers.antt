@@ -2,7 +2,8 @@ use Rattle.std.proofs.Common.{length, sym, ap, subst, ◌∙◌}
 use Rattle.std.specs.FinMap as map
 use Rattle.aml_namespace.specs.Known.{Known, Grows}
 use Rattle.std.specs.Prelude.{slice_get}
-use Rattle.aml_space.specs.Opened.{IsSpace, known_in, paths_in}
+use Rattle.aml_space.specs.Nodes.{paths_in}
+use Rattle.aml_space.specs.Opened.{IsSpace, known_in}
 use Rattle.aml_space.proofs.Opening.{still_space, known_again, numbered}
 use Rattle.aml_space.proofs.spaces.Space.number.Goals as goal
 use Rattle.aml_space.proofs.spaces.Space.number.Goals.{After-extend}

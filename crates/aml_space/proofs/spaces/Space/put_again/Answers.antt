@@ -1,9 +1,8 @@
 use Rattle.std.proofs.Common.{IfSome, ◌≡◌, false, ◌+◌, length, None}
 use Rattle.std.proofs.Common.{refl, sym, subst, ap, ◌∙◌, arith}
 use Rattle.std.specs.FinMap as map
-use Rattle.aml_space.specs.Nodes.{known_by}
+use Rattle.aml_space.specs.Nodes.{known_by, paths_in}
 use Rattle.aml_space.specs.Opened.{known_in, scopes_of}
-use Rattle.aml_space.specs.Near.{IsSourceOf}
 use Rattle.aml_namespace.specs.Known.{Known, Grows, namespace_in, once, with_declaration, with_again}
 use Rattle.aml_namespace.proofs.Numbers.{grows_not}
 use Rattle.aml_namespace.proofs.Stands.{stands_grown, stands_declared, again_first, none_from_test}
@@ -11,6 +10,9 @@ use Rattle.aml_space.proofs.Index.{known_taken, one_declared}
 use Rattle.aml_space.proofs.Opening.{still_space, known_again, on_err, ok_then, err_then}
 use Rattle.aml_space.proofs.spaces.Space.put_again.Goals as goal
 use Rattle.aml_space.proofs.spaces.Space.put_again.Goals.{In_ok-declare_first, After-declare_again, After-is_taken}
+use Rattle.aml_namespace.specs.Kinds.{kind_in}
+use Rattle.aml_space.proofs.Targets.{paths_long}
+use Rattle.aml_namespace.specs.Kinds.{IsAmong}
 
 not_declared : (c : After-is_taken) → c.is_taken.result ≡ false
     → map.get c.args.self.now.declarations c.args.path.now ≡ None
@@ -18,22 +20,21 @@ not_declared c free = none_from_test _ (sym (known_taken _ _ _ _ _ c.args.self.n
     (ap (λ k. k.declarations) c.self.view_is)) ∙ free)
 
 put_here : (c : In_ok-declare_first) → map.get c.args.self.now.declarations c.args.path.now ≡ None
-    → Grows (with_again c.args.self.now c.args.path.now c.args.kind c.args.sure)
+    → Grows (with_again c.args.self.now c.args.path.now (kind_in c.args.self.now.paths c.args.kind) c.args.sure)
     (known_in c.declare_first.new.nodes.items c.self.inside.scopes.items)
 put_here c none =
     let new = known_in c.declare_first.new.nodes.items c.self.inside.scopes.items in
-    subst (λ k. Grows k new) (sym (again_first c.args.self.now c.args.path.now c.args.kind c.args.sure none))
-    (subst (λ k. Grows (with_declaration k c.args.path.now (once c.args.kind c.args.sure)) new) c.self.view_is
+    subst (λ k. Grows k new) (sym (again_first c.args.self.now c.args.path.now (kind_in c.args.self.now.paths c.args.kind) c.args.sure none))
+    (subst (λ (k : Known). Grows (with_declaration k c.args.path.now (once (kind_in k.paths c.args.kind) c.args.sure)) new) c.self.view_is
     (known_again c.self.inside.nodes.items c.declare_first.new.nodes.items c.self.inside.scopes.items _
-    c.self.invariant.index c.declare_first.ensures.index c.declare_first.ensures.kept (c.in_ok-declare_first.ensures.ok
-    ∙ ap (λ kind. with_declaration (known_by c.self.inside.nodes.items) c.args.path.now (once kind c.args.sure)) c.aimed_by-aimed.ensures.kind)))
+    c.self.invariant.index c.declare_first.ensures.index c.declare_first.ensures.kept c.in_ok-declare_first.ensures.ok))
 
 -- where it is declared already
 put_there : (c : After-declare_again) → known_by c.declare_again.new.nodes.items
-    ≡ with_again (known_by c.self.inside.nodes.items) c.args.path.now c.args.kind c.args.sure
-    → Grows (with_again c.args.self.now c.args.path.now c.args.kind c.args.sure)
+    ≡ with_again (known_by c.self.inside.nodes.items) c.args.path.now (kind_in (paths_in c.self.inside.nodes.items) c.args.kind) c.args.sure
+    → Grows (with_again c.args.self.now c.args.path.now (kind_in c.args.self.now.paths c.args.kind) c.args.sure)
     (known_in c.declare_again.new.nodes.items c.self.inside.scopes.items)
-put_there c again = subst (λ k. Grows (with_again k c.args.path.now c.args.kind c.args.sure) (known_in c.declare_again.new.nodes.items c.self.inside.scopes.items))
+put_there c again = subst (λ (k : Known). Grows (with_again k c.args.path.now (kind_in k.paths c.args.kind) c.args.sure) (known_in c.declare_again.new.nodes.items c.self.inside.scopes.items))
     c.self.view_is (known_again c.self.inside.nodes.items c.declare_again.new.nodes.items c.self.inside.scopes.items _
     c.self.invariant.index c.declare_again.ensures.index c.declare_again.ensures.kept again)
 
@@ -55,8 +56,8 @@ invariant_of-self-2 c =
     let after : length (map.entries (known_by c.declare_first.new.nodes.items).declarations) ≡ length (map.entries c.args.self.now.declarations) + 1 =
     ap (λ (k : Known). length (map.entries k.declarations))
     (put_here (goal.at.invariant_of-self-2 c).In_ok-declare_first none).1
-    ∙ ap (λ (k : Known). length (map.entries k.declarations)) (again_first c.args.self.now c.args.path.now c.args.kind c.args.sure none)
-    ∙ one_declared c.args.self.now c.args.path.now (once c.args.kind c.args.sure) none in
+    ∙ ap (λ (k : Known). length (map.entries k.declarations)) (again_first c.args.self.now c.args.path.now (kind_in c.args.self.now.paths c.args.kind) c.args.sure none)
+    ∙ one_declared c.args.self.now c.args.path.now (once (kind_in c.args.self.now.paths c.args.kind) c.args.sure) none in
     still_space c.self.inside.nodes.items c.declare_first.new.nodes.items c.self.inside.rows _
     c.self.inside.scopes.items c.self.inside.ways c.declare_first.ensures.index c.declare_first.ensures.kept
     (omega (arith, before, after)) c.self.invariant
@@ -67,19 +68,12 @@ returns-clause-ok c = put_here (goal.at.returns-clause-ok c).In_ok-declare_first
 pub returns-clause-stands : goal.returns-clause-stands
 returns-clause-stands c = λ es body stands. stands_grown _ _ _
     (put_here (goal.at.returns-clause-stands c).In_ok-declare_first (not_declared (goal.at.returns-clause-stands c).After-is_taken c.if-is_taken.false))
-    (stands_declared c.args.self.now es stands c.args.path.now c.args.kind body c.args.sure)
+    (stands_declared c.args.self.now es stands c.args.path.now (kind_in c.args.self.now.paths c.args.kind) body c.args.sure)
 
 pub returns-then-is_taken-clause-stands : goal.returns-then-is_taken-clause-stands
 returns-then-is_taken-clause-stands c = λ es body stands. ok_then c.declare_again.result
     (λ ok. stands_grown _ _ _ (put_there (goal.at.returns-then-is_taken-clause-stands c).After-declare_again ok)
-    (stands_declared c.args.self.now es stands c.args.path.now c.args.kind body c.args.sure)) c.declare_again.ensures.ok
-
-pub aimed_by-aimed-requires-clause-source : goal.aimed_by-aimed-requires-clause-source
-aimed_by-aimed-requires-clause-source c =
-    let scopes = ap scopes_of (c.new-hints.ensures.scopes ∙ c.as_slice.ensures.value) ∙ ap (λ (k : Known). k.scopes) c.self.view_is in
-    let names = ap (λ ns. namespace_in (known_by ns)) c.as_slice-5.ensures.value ∙ ap namespace_in c.self.view_is in
-    subst (λ n. IfSome c.args.source (IsSourceOf (scopes_of c.new-hints.result.scopes.now) n c.args.kind)) (sym names)
-    (subst (λ inside. IfSome c.args.source (IsSourceOf inside (namespace_in c.args.self.now) c.args.kind)) (sym scopes) c.requires.source)
+    (stands_declared c.args.self.now es stands c.args.path.now (kind_in c.args.self.now.paths c.args.kind) body c.args.sure)) c.declare_again.ensures.ok
 
 pub returns-in_err-declare_first-clause-err : goal.returns-in_err-declare_first-clause-err
 returns-in_err-declare_first-clause-err c = on_err c.from_residual.result
@@ -99,3 +93,11 @@ returns-then-is_taken-clause-err c = err_then c.declare_again.result
     (λ err. subst (λ k. Grows k (known_in c.declare_again.new.nodes.items c.self.inside.scopes.items)) c.self.view_is
     (known_again c.self.inside.nodes.items c.declare_again.new.nodes.items c.self.inside.scopes.items _
     c.self.invariant.index c.declare_again.ensures.index c.declare_again.ensures.kept err)) c.declare_again.ensures.err
+
+pub declare_first-requires-clause-target : goal.declare_first-requires-clause-target
+declare_first-requires-clause-target c = subst (λ n. IsAmong n c.args.kind)
+    (ap (λ (k : Known). length k.paths) (sym c.self.view_is) ∙ paths_long c.self.inside.nodes.items) c.requires.target
+
+pub declare_again-requires-clause-target : goal.declare_again-requires-clause-target
+declare_again-requires-clause-target c = subst (λ n. IsAmong n c.args.kind)
+    (ap (λ (k : Known). length k.paths) (sym c.self.view_is) ∙ paths_long c.self.inside.nodes.items) c.requires.target

@@ -5,7 +5,6 @@ use Rattle.std.specs.FinMap as map
 use Rattle.aml_namespace.specs.Namespace.{Entry, declares, declared_at}
 use Rattle.aml_space.specs.Nodes.{known_by}
 use Rattle.aml_space.specs.Opened.{known_in, scopes_of}
-use Rattle.aml_space.specs.Near.{IsSourceOf}
 use Rattle.aml_namespace.specs.Known.{Known, StandsFor, Grows, namespace_in, once, with_declaration, is_declared}
 use Rattle.aml_namespace.proofs.Numbers.{grows_not}
 use Rattle.aml_namespace.proofs.Stands.{stands_grown, stands_declared, again_first, none_from_test, declared_listed}
@@ -13,6 +12,9 @@ use Rattle.aml_space.proofs.Index.{known_taken, one_declared}
 use Rattle.aml_space.proofs.Opening.{still_space, known_again, on_err}
 use Rattle.aml_space.proofs.spaces.Space.put_once.Goals as goal
 use Rattle.aml_space.proofs.spaces.Space.put_once.Goals.{After-is_taken, After-declare_first, In_ok-declare_first}
+use Rattle.aml_namespace.specs.Kinds.{kind_in}
+use Rattle.aml_space.proofs.Targets.{paths_long}
+use Rattle.aml_namespace.specs.Kinds.{IsAmong}
 
 taken : (c : After-is_taken) → c.is_taken.result ≡ is_declared c.args.self.now c.args.path.now
 taken c = known_taken _ _ _ _ _ c.args.self.now c.is_taken.ensures.taken c.as_slice-4.ensures.value refl c.self.invariant.index.shape
@@ -27,13 +29,12 @@ never : (c : After-is_taken) → c.is_taken.result ≡ false → {A : Type 0}
 never c free there = absurd (true≢false (sym there ∙ sym (taken c) ∙ free))
 
 put_here : (c : In_ok-declare_first)
-    → Grows (with_declaration c.args.self.now c.args.path.now (once c.args.kind c.args.surely))
+    → Grows (with_declaration c.args.self.now c.args.path.now (once (kind_in c.args.self.now.paths c.args.kind) c.args.surely))
     (known_in c.declare_first.new.nodes.items c.self.inside.scopes.items)
 put_here c =
     let new = known_in c.declare_first.new.nodes.items c.self.inside.scopes.items in
-    subst (λ k. Grows (with_declaration k c.args.path.now (once c.args.kind c.args.surely)) new) c.self.view_is (known_again c.self.inside.nodes.items c.declare_first.new.nodes.items c.self.inside.scopes.items _
-    c.self.invariant.index c.declare_first.ensures.index c.declare_first.ensures.kept (c.in_ok-declare_first.ensures.ok
-    ∙ ap (λ kind. with_declaration (known_by c.self.inside.nodes.items) c.args.path.now (once kind c.args.surely)) c.aimed_by-aimed.ensures.kind))
+    subst (λ (k : Known). Grows (with_declaration k c.args.path.now (once (kind_in k.paths c.args.kind) c.args.surely)) new) c.self.view_is (known_again c.self.inside.nodes.items c.declare_first.new.nodes.items c.self.inside.scopes.items _
+    c.self.invariant.index c.declare_first.ensures.index c.declare_first.ensures.kept c.in_ok-declare_first.ensures.ok)
 
 pub invariant_of-self : goal.invariant_of-self
 invariant_of-self c = still_space c.self.inside.nodes.items c.declare_first.new.nodes.items c.self.inside.rows _
@@ -46,7 +47,7 @@ invariant_of-self-2 c =
     ∙ ap (λ (k : Known). length (map.entries k.declarations)) c.self.view_is in
     let after : length (map.entries (known_by c.declare_first.new.nodes.items).declarations) ≡ length (map.entries c.args.self.now.declarations) + 1 =
     ap (λ (k : Known). length (map.entries k.declarations)) (put_here (goal.at.invariant_of-self-2 c).In_ok-declare_first).1
-    ∙ one_declared c.args.self.now c.args.path.now (once c.args.kind c.args.surely)
+    ∙ one_declared c.args.self.now c.args.path.now (once (kind_in c.args.self.now.paths c.args.kind) c.args.surely)
     (not_declared (goal.at.invariant_of-self-2 c).After-is_taken c.if-is_taken.false) in
     still_space c.self.inside.nodes.items c.declare_first.new.nodes.items c.self.inside.rows _
     c.self.inside.scopes.items c.self.inside.ways c.declare_first.ensures.index c.declare_first.ensures.kept
@@ -54,9 +55,9 @@ invariant_of-self-2 c =
 
 pub returns-clause-stands : goal.returns-clause-stands
 returns-clause-stands c = λ es body stands. stands_grown _ _ _ (put_here (goal.at.returns-clause-stands c).In_ok-declare_first)
-    (subst (λ k. StandsFor k (es ++ declares c.args.path.now c.args.kind body c.args.surely ∷ []))
-    (again_first c.args.self.now c.args.path.now c.args.kind c.args.surely (not_declared (goal.at.returns-clause-stands c).After-is_taken c.if-is_taken.false))
-    (stands_declared c.args.self.now es stands c.args.path.now c.args.kind body c.args.surely))
+    (subst (λ k. StandsFor k (es ++ declares c.args.path.now (kind_in c.args.self.now.paths c.args.kind) body c.args.surely ∷ []))
+    (again_first c.args.self.now c.args.path.now (kind_in c.args.self.now.paths c.args.kind) c.args.surely (not_declared (goal.at.returns-clause-stands c).After-is_taken c.if-is_taken.false))
+    (stands_declared c.args.self.now es stands c.args.path.now (kind_in c.args.self.now.paths c.args.kind) body c.args.surely))
 
 listed : (c : After-is_taken) (es : List Entry) → StandsFor c.args.self.now es
     → is_some (declared_at es c.args.path.now) ≡ c.is_taken.result
@@ -86,13 +87,6 @@ returns-then-is_taken-clause-listed c = λ es s. ap not (sym c.if-is_taken.true 
 pub returns-clause-listed : goal.returns-clause-listed
 returns-clause-listed c = λ es s. ap not (sym c.if-is_taken.false ∙ sym (listed (goal.at.returns-clause-listed c).After-is_taken es s))
 
-pub aimed_by-aimed-requires-clause-source : goal.aimed_by-aimed-requires-clause-source
-aimed_by-aimed-requires-clause-source c =
-    let scopes = ap scopes_of (c.new-hints.ensures.scopes ∙ c.as_slice.ensures.value) ∙ ap (λ (k : Known). k.scopes) c.self.view_is in
-    let names = ap (λ ns. namespace_in (known_by ns)) c.as_slice-5.ensures.value ∙ ap namespace_in c.self.view_is in
-    subst (λ n. IfSome c.args.source (IsSourceOf (scopes_of c.new-hints.result.scopes.now) n c.args.kind)) (sym names)
-    (subst (λ inside. IfSome c.args.source (IsSourceOf inside (namespace_in c.args.self.now) c.args.kind)) (sym scopes) c.requires.source)
-
 pub returns-in_err-declare_first-clause-err : goal.returns-in_err-declare_first-clause-err
 returns-in_err-declare_first-clause-err c = on_err c.from_residual.result
     (subst (λ k. Grows k (known_in c.declare_first.new.nodes.items c.self.inside.scopes.items)) c.self.view_is
@@ -104,3 +98,7 @@ returns-then-is_taken-clause-known c = grows_not _
 
 pub returns-then-self-clause-err : goal.returns-then-self-clause-err
 returns-then-self-clause-err c = grows_not _
+
+pub declare_first-requires-clause-target : goal.declare_first-requires-clause-target
+declare_first-requires-clause-target c = subst (λ n. IsAmong n c.args.kind)
+    (ap (λ (k : Known). length k.paths) (sym c.self.view_is) ∙ paths_long c.self.inside.nodes.items) c.requires.target
