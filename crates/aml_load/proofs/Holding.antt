@@ -120,6 +120,17 @@ inside_held old new l scope grows ms us h = record {
   known = known_as old new h.known (λ id p. still_at _ _ id p grows) us;
 }
 
+-- paths have numbers more
+pub grown_held : (old new : Progress) (l : Listed) → Grows old.space new.space → new.methods.items ≡ old.methods.items
+    → new.uses.items ≡ old.uses.items → Holds old l → Holds new l
+grown_held old new l grows ms us h = record {
+  numbered = numbered_as old new h.numbered (λ id p. still_at _ _ id p grows) ms;
+  space = stands_grown _ _ l.entries grows h.space;
+  methods = methods_as old new h.numbered (λ id p. still_at _ _ id p grows) ms ∙ h.methods;
+  uses = uses_as old new h.known (λ id p. still_at _ _ id p grows) us ∙ h.uses;
+  known = known_as old new h.known (λ id p. still_at _ _ id p grows) us;
+}
+
 -- the names of a term more
 pub uses_held : (old new : Progress) (l : Listed) (site : Where) (x : Tree) → Holds old l → new.space ≡ old.space
     → new.methods.items ≡ old.methods.items

@@ -28,7 +28,8 @@ use Rattle.aml_namespace.specs.Runs.{outlook_of, agreed_arity}
 use Rattle.aml_load.specs.declared.faults.LoadFault.{LoadFault}
 use Rattle.aml_load.specs.declared.faults.LoadFault.TheVariants as loads
 use Rattle.aml_load.specs.Loading.{Where, role_of, kind_of, in_declaration, plain_entry, method_entry, leads}
-use Rattle.aml_load.specs.Loading.{target_by, alias_entry, methods_of}
+use Rattle.aml_namespace.specs.Namespace.{target_by}
+use Rattle.aml_load.specs.Loading.{alias_entry, methods_of}
 
 -- ---- Where a term stands.
 

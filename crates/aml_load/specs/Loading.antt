@@ -14,6 +14,7 @@ use Rattle.aml_code.specs.Tree.{Tree, op, Trees, no_trees, tree_more, Parts, no_
 use Rattle.aml_code.specs.Tree.{terms, body}
 use Rattle.aml_parse.specs.Running.{is_block}
 use Rattle.aml_namespace.specs.Namespace.{Entry, external, given, declared_at, namespace_of, found, declares, kind_at}
+use Rattle.aml_namespace.specs.Namespace.{target_by}
 use Rattle.aml_namespace.specs.Runs.{outlook_of, scope_in, agreed_arity, sure_at, open_in, agreed_path}
 use Rattle.std.specs.List.{filter_map, list_all}
 use Rattle.aml_code.specs.declared.rows.Group.{Group}

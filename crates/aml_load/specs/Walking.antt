@@ -3,11 +3,12 @@ use Rattle.std.specs.Prelude.{◌≡◌, ◌⊎◌, ◌&&◌, Bool, true, false,
 use Rattle.std.specs.Prelude.{Err, is_some, ℕ}
 use Rattle.aml_names.specs.declared.segments.Seg.{Seg}
 use Rattle.aml_space.specs.declared.faults.SpaceFault.TheVariants as faults
+use Rattle.aml_namespace.specs.declared.kinds.Kind.{Kind as KindOf}
+use Rattle.aml_namespace.specs.Kinds.{Kind, kind_in, IsAmong}
 use Rattle.aml_namespace.specs.Namespace.{Entry, declared_at}
 use Rattle.aml_namespace.specs.Known.{Known, StandsAt, StandsFor}
 use Rattle.aml_space.specs.Near.{IsOpen, IsBelow}
 use Rattle.aml_space.specs.declared.opened.PlacedPath.{PlacedPath}
-use Rattle.aml_space.specs.declared.opened.Source.{Source}
 use Rattle.aml_load.specs.declared.faults.LoadFault.{LoadFault}
 use Rattle.aml_load.specs.declared.faults.LoadFault.TheVariants as loads
 use Rattle.aml_load.specs.declared.uses.Site.{Site}
@@ -43,13 +44,18 @@ IsDeclared site es p x old new (Ok u) = IsFree site es p (Ok u) × StandsFor new
 IsDeclared site es p x old new (Err e) = IsFree site es p (Err e)
 
 -- the path of which an Alias is declared
-abbrev pub source_paths : Option Source → List (List Seg)
+abbrev pub source_paths : Option (List Seg) → List (List Seg)
 source_paths None = []
-source_paths (Some s) = s.path.now ∷ []
+source_paths (Some p) = p ∷ []
 
 -- whether a path is declared at a site in every run, and if it is an Alias, what it is declared of
-abbrev pub sure_of : Where → List Entry → List Seg → Option Source → Bool
+abbrev pub sure_of : Where → List Entry → List Seg → Option (List Seg) → Bool
 sure_of site es p source = sure_with site es (parent_of p ∷ source_paths source)
+
+-- a kind by number is this one whatever the paths are, since it is no Alias's
+pub record IsPlain (by_number : KindOf ℕ) (kind : Kind) : Type 0 where
+  pub shown : (paths : List (List Seg)) → kind_in paths by_number ≡ kind
+  pub among : (count : ℕ) → IsAmong count by_number
 
 -- the namespace, the methods and the uses so far are those of what is listed, and the paths of methods and the scopes of
 -- uses have numbers

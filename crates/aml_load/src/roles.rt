@@ -1,9 +1,10 @@
 //! What the terms of a table do to the namespace.
 ghost use Rattle.std.specs.Prelude.{◌≡◌};
 ghost use Rattle.aml_load.specs.Loading.{role_of, kind_of};
+ghost use Rattle.aml_load.specs.Walking.{IsPlain};
 
 use aml_code::{Object, Role, listed_row};
-use aml_space::Kind;
+use aml_space::{Kind, PathId};
 
 /// The role of an opcode.
 #[tactic(auto, unfolding(crate::specs::Loading::role_of))]
@@ -17,8 +18,8 @@ pub fn role_of(opcode: u16) -> Role
 }
 
 /// The kind of an object.
-pub fn kind_of(object: Object) -> Kind
-    ensures { result ≡ kind_of object }
+pub fn kind_of(object: Object) -> Kind<PathId>
+    ensures { IsPlain result (kind_of object) }
 {
     match object {
         Object::Name => Kind::Name,

@@ -9,7 +9,8 @@ ghost use Rattle.aml_namespace.specs.Known.{StandsFor};
 ghost use Rattle.aml_space.specs.Near.{IsBelow};
 ghost use Rattle.aml_load.specs.Declaring.{Listed, declare_as};
 ghost use Rattle.aml_load.specs.Running.{opened_at, object_at, scope_at, enter_as};
-ghost use Rattle.aml_load.specs.Walking.{at_site, GivesIn, Walks, Holds, IsInside, Stays, AreBelow};
+ghost use Rattle.aml_namespace.specs.Kinds.{kind_in};
+ghost use Rattle.aml_load.specs.Walking.{at_site, GivesIn, Walks, Holds, IsInside, Stays, AreBelow, IsPlain};
 ghost use Rattle.aml_load.specs.Runner.{IsFlat, IsSite, Comes, opens, span_inside, with_terms, HasRoom};
 ghost use Rattle.aml_load.specs.Runner.{run_site, IsWithin, IsEntered};
 ghost use Rattle.aml_load.specs.Runner.{HasRoomInside, IsOn, IsThere, Steps, Enters, Opens, Runs, RunsAll, RunsTable};
@@ -25,7 +26,7 @@ use aml_code::{
 };
 use aml_names::ScopedPath;
 use aml_parse::{next_position, read_step};
-use aml_space::{BodyNames, Kind, PlacedPath, SpaceFault};
+use aml_space::{BodyNames, Kind, PathId, PlacedPath, SpaceFault};
 use std::alloc::Global;
 
 /// The most levels of terms inside each other.
@@ -276,11 +277,13 @@ impl Progress {
         &mut self,
         here: &RunSite,
         name: Option<&Name>,
-        kind: Kind,
+        kind: Kind<PathId>,
         tail: &Tail,
     ) -> Result<RunSite, LoadFault>
-        requires { IsWithin self.old here.now }
-        ensures comes { Comes self.old self.new here.now result (λ f. object_at f (option_copied name.entry) kind) }
+        requires within { IsWithin self.old here.now }
+        requires plain { IsPlain kind (kind_in [] kind) }
+        ensures comes { Comes self.old self.new here.now result (λ f.
+            object_at f (option_copied name.entry) (kind_in [] kind)) }
         ensures opens { IfOk result (λ inner. IsEntered self.old.space.scopes self.new inner) }
     {
         let site = here.site();

@@ -1,5 +1,5 @@
 //! What the terms of a table declare.
-ghost use Rattle.std.specs.Prelude.{◌≡◌, ◌∷◌, ◌++◌, [], Option, None, Ok, IfOk, IfSome, OnOk, true, take};
+ghost use Rattle.std.specs.Prelude.{◌≡◌, ◌∷◌, ◌++◌, [], Option, None, Ok, IfOk, IfSome, OnOk, true, take, length, ◌<◌};
 ghost use Rattle.std.specs.Option.{option_copied, ok_or};
 ghost use Rattle.std.specs.List.{list_all};
 ghost use Rattle.aml_code.specs.Lawful.{last_label, field_names, plain_name, unit_names};
@@ -7,14 +7,15 @@ ghost use Rattle.aml_code.specs.Tree.{no_fields, field_more};
 ghost use Rattle.aml_code.specs.View.{node_view, nodes_view, parts_view, tail_view, fields_view, field_view};
 ghost use Rattle.aml_namespace.specs.Namespace.{Body, declares, external as outside};
 ghost use Rattle.aml_namespace.specs.Runs.{outlook_of, sure_at, open_in};
-ghost use Rattle.aml_namespace.specs.Known.{StandsFor, namespace_in};
+ghost use Rattle.aml_namespace.specs.Kinds.{kind_in, IsAmong};
+ghost use Rattle.aml_namespace.specs.Known.{StandsAt, StandsFor};
 ghost use Rattle.aml_namespace.specs.declared.kinds.Kind.TheVariants.{Alias};
-ghost use Rattle.aml_space.specs.Near.{IsBelow, IsNear, IsSourceOf, IsTarget, path_of};
+ghost use Rattle.aml_space.specs.Near.{IsBelow, path_of};
 ghost use Rattle.aml_load.specs.Declaring.{under, Listed, plus, with_uses, first_label, byte_of, lead_of, target_of};
 ghost use Rattle.aml_load.specs.Declaring.{body_span, place_at, lead_at, entry_at, new_at, method_at, alias_at};
 ghost use Rattle.aml_load.specs.Declaring.{external_at, units_at, declare_as, declare, declare_inside, declare_all};
 ghost use Rattle.aml_load.specs.Loading.{method_entry, parent_of, sure_with, plain_entry};
-ghost use Rattle.aml_load.specs.Walking.{at_site, Gives, GivesIn, IsDeclared, Walks, IsInside, Stays, Holds, AreBelow};
+ghost use Rattle.aml_load.specs.Walking.{at_site, Gives, GivesIn, IsDeclared, Walks, IsInside, Stays, Holds, AreBelow, IsPlain};
 ghost use Rattle.aml_load.specs.Walking.{source_paths, sure_of};
 
 use crate::faults::LoadFault;
@@ -25,7 +26,7 @@ use crate::uses::{Site, add_names};
 use aml_code::{Field, Name, NoMemory, Node, Part, Role, Seg, Tail, last_byte, last_name};
 use aml_names::{Path, ScopedPath, front_of};
 use aml_set::Method;
-use aml_space::{Kind, Near, PlacedPath, Source, Space, SpaceFault, Target};
+use aml_space::{Kind, Near, PathId, PlacedPath, Space, SpaceFault};
 use std::alloc::Global;
 
 /// The most methods that a set of tables may have.
@@ -160,22 +161,18 @@ impl Progress {
 }
 
 impl Progress {
-    /// What an Alias of a path stands for: an Alias' own target, else the path.
-    fn target_of(&self, site: &Site<'_>, source: &PlacedPath) -> Result<Target, NoMemory>
-        requires inside { IsInside self.now site.now }
+    /// The number of what an Alias of a path stands for: an Alias' own target, else the path.
+    fn target_of(&mut self, site: &Site<'_>, source: &PlacedPath) -> Result<PathId, NoMemory>
+        requires inside { IsInside self.old site.now }
         requires below { IsBelow source.now.front site.now.scope.now source.now.path }
-        ensures known { IfOk result (λ target. IsTarget (namespace_in self.now.space) source.now.path target) }
-        ensures listed { (l : Listed) → StandsFor self.now.space l.entries →
-            IfOk result (λ target. target ≡ target_of l.entries source.now.path) }
+        ensures holds { (l : Listed) → Holds self.old l → Holds self.new l }
+        ensures target { (l : Listed) → StandsFor self.old.space l.entries →
+            IfOk result (λ id. StandsAt self.new.space id (target_of l.entries source.now.path)) }
+        ensures among { IfOk result (λ id. id < length self.new.space.paths) }
+        ensures stays { Stays self.old self.new }
     {
         let near = source.near(site.place);
-        match self.space.kind_near(near, &source.path.parts()) {
-            Some(Kind::Alias { target, .. }) => target.clone(),
-            _ => {
-                let path = source.path.clone()?;
-                Target::new(self.alloc, path)
-            }
-        }
+        self.space.number_target(near, &source.path.parts())
     }
 
     /// Whether the path above one has a kind whatever runs.
@@ -192,14 +189,18 @@ impl Progress {
     }
 
     /// Whether what an Alias is declared of has a kind whatever runs; true of another kind.
-    fn is_source_sure(&self, source: Option<Source<'_>>) -> bool
-        requires { IfSome source (λ s. IsNear self.now.space.scopes s.near s.path.now) }
+    fn is_source_sure(&self, site: &Site<'_>, source: Option<&PlacedPath>) -> bool
+        requires inside { IsInside self.now site.now }
+        requires below { IfSome source (λ s. IsBelow s.now.front site.now.scope.now s.now.path) }
         ensures { (l : Listed) → StandsFor self.now.space l.entries →
-            result ≡ list_all (sure_at l.entries) (source_paths source.entry) }
+            result ≡ list_all (sure_at l.entries) (source_paths (path_of (option_copied source.entry))) }
     {
         match source {
             None => true,
-            Some(source) => self.space.is_sure(source.near, &source.path.parts()),
+            Some(source) => {
+                self.space
+                    .is_sure(source.near(site.place), &source.path.parts())
+            }
         }
     }
 
@@ -208,18 +209,18 @@ impl Progress {
         &self,
         site: &Site<'_>,
         path: &PlacedPath,
-        source: Option<Source<'_>>,
+        source: Option<&PlacedPath>,
     ) -> bool
         requires inside { IsInside self.now site.now }
         requires below { IsBelow path.now.front site.now.scope.now path.now.path }
-        requires source { IfSome source (λ s. IsNear self.now.space.scopes s.near s.path.now) }
+        requires source { IfSome source (λ s. IsBelow s.now.front site.now.scope.now s.now.path) }
         ensures { (l : Listed) → StandsFor self.now.space l.entries →
-            result ≡ sure_of (at_site site.now) l.entries path.now.path source.entry }
+            result ≡ sure_of (at_site site.now) l.entries path.now.path (path_of (option_copied source.entry)) }
     {
         if !site.any_run {
             return site.sure;
         }
-        site.sure && self.is_sure_above(site, path) && self.is_source_sure(source)
+        site.sure && self.is_sure_above(site, path) && self.is_source_sure(site, source)
     }
 
     /// Declares a path: once where the code outside methods may not run, else `Duplicate`; and also again where it may.
@@ -228,27 +229,30 @@ impl Progress {
         &mut self,
         site: &Site<'_>,
         path: &PlacedPath,
-        kind: Kind,
-        source: Option<Source<'_>>,
+        kind: Kind<PathId>,
+        source: Option<&PlacedPath>,
     ) -> Result<(), LoadFault>
         requires inside { IsInside self.old site.now }
         requires below { IsBelow path.now.front site.now.scope.now path.now.path }
-        requires source { IfSome source (IsSourceOf self.old.space.scopes (namespace_in self.old.space) kind) }
+        requires source { IfSome source (λ s. IsBelow s.now.front site.now.scope.now s.now.path) }
+        requires target { IsAmong (length self.old.space.paths) kind }
         ensures declared { (l : Listed) (body : Option Body) → StandsFor self.old.space l.entries →
-            IsDeclared (at_site site.now) l.entries path.now.path (declares path.now.path kind body
-            (sure_of (at_site site.now) l.entries path.now.path source.entry)) self.old self.new result }
+            IsDeclared (at_site site.now) l.entries path.now.path
+            (declares path.now.path (kind_in self.old.space.paths kind) body
+            (sure_of (at_site site.now) l.entries path.now.path (path_of (option_copied source.entry))))
+            self.old self.new result }
         ensures stays { OnOk result (Stays self.old self.new) }
     {
         let near = path.near(site.place);
         let sure = self.is_sure_here(site, path, source);
         if site.any_run {
             self.space
-                .put_again(near, &path.path.parts(), kind, source, sure)?;
+                .put_again(near, &path.path.parts(), kind, sure)?;
             return Ok(());
         }
         if self
             .space
-            .put_once(near, &path.path.parts(), kind, source, sure)?
+            .put_once(near, &path.path.parts(), kind, sure)?
         {
             return Ok(());
         }
@@ -262,15 +266,17 @@ impl Progress {
         &mut self,
         site: &Site<'_>,
         path: &PlacedPath,
-        kind: Kind,
-        source: Option<Source<'_>>,
+        kind: Kind<PathId>,
+        source: Option<&PlacedPath>,
     ) -> Result<(), LoadFault>
         requires inside { IsInside self.old site.now }
         requires below { IsBelow path.now.front site.now.scope.now path.now.path }
-        requires source { IfSome source (IsSourceOf self.old.space.scopes (namespace_in self.old.space) kind) }
+        requires source { IfSome source (λ s. IsBelow s.now.front site.now.scope.now s.now.path) }
+        requires target { IsAmong (length self.old.space.paths) kind }
         ensures walks { Walks self.old self.new result (λ l.
-            entry_at (at_site site.now) l path.now.path (declares path.now.path kind None
-            (sure_of (at_site site.now) l.entries path.now.path source.entry))) }
+            entry_at (at_site site.now) l path.now.path
+            (declares path.now.path (kind_in self.old.space.paths kind) None
+            (sure_of (at_site site.now) l.entries path.now.path (path_of (option_copied source.entry))))) }
         ensures stays { OnOk result (Stays self.old self.new) }
     {
         self.declare_path(site, path, kind, source)
@@ -281,13 +287,14 @@ impl Progress {
         &mut self,
         site: &Site<'_>,
         path: &PlacedPath,
-        kind: Kind,
+        kind: Kind<PathId>,
     ) -> Result<(), LoadFault>
         requires inside { IsInside self.old site.now }
         requires below { IsBelow path.now.front site.now.scope.now path.now.path }
+        requires plain { IsPlain kind (kind_in [] kind) }
         ensures walks { Walks self.old self.new result (λ l.
             entry_at (at_site site.now) l path.now.path
-            (plain_entry (at_site site.now) l.entries kind path.now.path)) }
+            (plain_entry (at_site site.now) l.entries (kind_in [] kind) path.now.path)) }
         ensures stays { OnOk result (Stays self.old self.new) }
     {
         self.declare_of(site, path, kind, None)
@@ -324,30 +331,25 @@ impl Progress {
 
 #[tactic(auto, unfolding(crate::specs::Declaring::new_at))]
 impl Progress {
-    /// Declares a name as an Alias of a source, which stands for this path.
+    /// Declares a name as an Alias of a source.
     fn declare_alias(
         &mut self,
         site: &Site<'_>,
         name: Option<&Name>,
-        target: Target,
         source: &PlacedPath,
     ) -> Result<(), LoadFault>
         requires inside { IsInside self.old site.now }
         requires below { IsBelow source.now.front site.now.scope.now source.now.path }
-        requires target { IsTarget (namespace_in self.old.space) source.now.path target }
         ensures walks { Walks self.old self.new result (λ l.
-            new_at (at_site site.now) l (option_copied name.entry) (λ p.
-            declares p (Alias (open_in (outlook_of l.entries) source.now.path) target) None
+            new_at (at_site site.now) l (option_copied name.entry) (λ p. declares p
+            (Alias (open_in (outlook_of l.entries) source.now.path) (target_of l.entries source.now.path)) None
             (sure_with (at_site site.now) l.entries (parent_of p ∷ source.now.path ∷ [])))) }
         ensures stays { OnOk result (Stays self.old self.new) }
     {
         let path = self.own_path(site, name)?;
+        let target = self.target_of(site, source)?;
         let near = source.near(site.place);
         let is_open = self.space.is_open(near, &source.path.parts());
-        let source = Source {
-            near,
-            path: &source.path,
-        };
         self.declare_of(site, &path, Kind::Alias { is_open, target }, Some(source))
     }
 
@@ -402,8 +404,7 @@ impl Progress {
     {
         self.expect_search(site, first_name(parts));
         let source = self.source_path(site, first_name(parts))?;
-        let target = self.target_of(site, &source)?;
-        self.declare_alias(site, last_name(parts), target, &source)
+        self.declare_alias(site, last_name(parts), &source)
     }
 
     /// Adds an External of a path.

@@ -29,7 +29,8 @@ use Rattle.aml_load.specs.Declaring.{◌>>=◌, Listed, plus, byte_of, body_span
 use Rattle.aml_load.specs.Declaring.{entry_at, new_at, method_at, alias_at, external_at, units_at, lead_of, declare_as}
 use Rattle.aml_load.specs.Declaring.{most_methods}
 use Rattle.aml_load.specs.Loading.{kind_of, parent_of, sure_here, sure_with, plain_entry, method_entry}
-use Rattle.aml_load.specs.Loading.{alias_entry, target_by, methods_of}
+use Rattle.aml_namespace.specs.Namespace.{target_by}
+use Rattle.aml_load.specs.Loading.{alias_entry, methods_of}
 use Rattle.aml_load.specs.declared.faults.LoadFault.TheVariants as loads
 use Rattle.aml_load.specs.Running.{Front, in_path, opened_by, opened_at, object_at, scope_at, enter_as}
 use Rattle.aml_load.proofs.Doing.{bound, value_is, run_site as site_at, front, is_flat}

@@ -26,7 +26,8 @@ use Rattle.aml_namespace.specs.Runs.{opens_scope, is_alias, leads, stands, means
 use Rattle.aml_namespace.proofs.Finding.{found_holds}
 use Rattle.aml_namespace.proofs.Growing.{declaring, declared_more}
 use Rattle.aml_load.specs.Declaring.{byte_of, first_label, target_of}
-use Rattle.aml_load.specs.Loading.{role_of, kind_of, target_by}
+use Rattle.aml_namespace.specs.Namespace.{target_by}
+use Rattle.aml_load.specs.Loading.{role_of, kind_of}
 use Rattle.aml_runs.specs.TableRuns.{is_passed, with_path, gained_at, path_in, found_in, units_gained, alias_gained}
 use Rattle.aml_runs.specs.TableRuns.{RunsInside, RunsObject, may_open, RunsScope, RunsAs, Runs, RunTail, RunTerms}
 use Rattle.aml_runs.specs.TableRuns.{RunTables, IsRunOf}

@@ -7,7 +7,7 @@ use Rattle.aml_load.proofs.walking.Progress.enter_object.Goals as goal
 pub is_declared-declared-requires : goal.is_declared-declared-requires
 is_declared-declared-requires c =
     let inside : IsOpen c.args.self.now.space.scopes c.site-site.result.place c.site-site.result.scope.now =
-    rw (c.site-site.ensures.place, c.site-site.ensures.scope) c.requires in
+    rw (c.site-site.ensures.place, c.site-site.ensures.scope) c.requires.within in
     rw c.parts.ensures (c.near.ensures _ _ inside c.in_ok-path.ensures.below)
 
 pub returns-clause-opens : goal.returns-clause-opens
