@@ -1,7 +1,7 @@
 //! Rows of large namespaces: methods with a segment each, declared in a mixed order, beside the plain list of them.
 
 use aml_names::{Path, Seg};
-use aml_space::{Kind, Row, Space};
+use aml_space::{Kind, Row, Space, SpacePath};
 use std::alloc::{AllocError, Global};
 use std::fmt::Write;
 
@@ -52,7 +52,7 @@ fn declare_all(alloc: Global, space: &mut Space, count: usize) -> Result<(), All
     Ok(())
 }
 
-fn is_kind(kind: &Kind, number: usize) -> bool {
+fn is_kind(kind: &Kind<SpacePath<'_>>, number: usize) -> bool {
     matches!(kind, Kind::Method { args } if *args == count_of(number))
 }
 
@@ -66,7 +66,7 @@ fn is_path(row: &Row<'_>, segment: Seg) -> bool {
 fn is_at_place(space: &Space, number: usize) -> bool {
     match space.row_at(number) {
         None => false,
-        Some(row) => is_path(&row, segment(number)) && is_kind(row.kind(), number),
+        Some(row) => is_path(&row, segment(number)) && is_kind(&row.kind(), number),
     }
 }
 
@@ -74,7 +74,7 @@ fn is_at_place(space: &Space, number: usize) -> bool {
 fn is_found(alloc: Global, space: &Space, number: usize) -> Result<bool, AllocError> {
     let path = path_of(alloc, number)?;
     Ok(match space.kind_counted(&path) {
-        (Some(kind), 1..=64) => is_kind(kind, number),
+        (Some(kind), 1..=64) => is_kind(&kind, number),
         _ => false,
     })
 }

@@ -4,7 +4,7 @@ ghost use Rattle.std.specs.Prelude.{◌≤◌, length};
 use crate::code::push_body_of;
 use crate::lines::{Line, count_of, first_word};
 use aml_names::{Arity, Locals, Name, NameForm, Path, ScopedPath, Seg, Segs, place};
-use aml_space::{BodyScope, Kind, Near, Space, SpaceRow, Target};
+use aml_space::{BodyScope, Kind, Near, Space, SpacePath, SpaceRow};
 use std::alloc::{AllocError, Global};
 use std::fmt::Write;
 
@@ -26,7 +26,12 @@ pub fn push_declared(
 }
 
 /// Declares a path, or says why it isn't.
-fn declare(out: &mut String, space: &mut Space, path: Path, kind: Kind) -> Result<(), AllocError> {
+fn declare(
+    out: &mut String,
+    space: &mut Space,
+    path: Path,
+    kind: Kind<Path>,
+) -> Result<(), AllocError> {
     match space.declare(path, kind) {
         Ok(()) => Ok(()),
         Err(fault) => writeln!(out, "  {fault}"),
@@ -159,8 +164,8 @@ impl Names<'_> {
         let path = path_of(alloc, line.words)?;
         match line.kind {
             "count" => push_count(out, self.space.count(&path)),
-            "kind" => self.push_kind(out, &path),
-            "counted" => self.push_counted(out, &path),
+            "kind" => self.push_kind(alloc, out, &path),
+            "counted" => self.push_counted(alloc, out, &path),
             "is_local" => self.push_local(out, &path),
             "scope" => self.push_scope(out, &path),
             "alias" => self.push_alias(out, &path),
@@ -168,14 +173,19 @@ impl Names<'_> {
         }
     }
 
-    fn push_kind(&self, out: &mut String, path: &Path) -> Result<(), AllocError> {
-        push_row_or_none(out, path, self.space.kind(path))
+    fn push_kind(&self, alloc: Global, out: &mut String, path: &Path) -> Result<(), AllocError> {
+        push_row_or_none(alloc, out, path, self.space.kind(path))
     }
 
     /// The same, and whether it was found by some comparisons, but at most 64 a segment.
-    fn push_counted(&self, out: &mut String, path: &Path) -> Result<(), AllocError> {
+    fn push_counted(
+        &self,
+        alloc: Global,
+        out: &mut String,
+        path: &Path,
+    ) -> Result<(), AllocError> {
         let (kind, compared) = self.space.kind_counted(path);
-        push_row_or_none(out, path, kind)?;
+        push_row_or_none(alloc, out, path, kind)?;
         let most = 64 * path.segs().len() as u128;
         let said = if compared == 0 {
             "no"
@@ -311,19 +321,34 @@ pub fn push_row_at(
         None => out.push_str("  none\n"),
         Some(row) => {
             let path = row.path().to_path(alloc)?;
-            push_marked(out, &path, row.kind(), row.is_sure(), row.times())
+            let kind = own_kind(alloc, &row.kind())?;
+            push_marked(out, &path, &kind, row.is_sure(), row.times())
         }
     }
 }
 
-fn push_row_or_none(out: &mut String, path: &Path, kind: Option<&Kind>) -> Result<(), AllocError> {
+fn push_row_or_none(
+    alloc: Global,
+    out: &mut String,
+    path: &Path,
+    kind: Option<Kind<SpacePath<'_>>>,
+) -> Result<(), AllocError> {
     match kind {
         None => out.push_str("  none\n"),
-        Some(kind) => push_row(out, path, kind),
+        Some(kind) => push_row(out, path, &own_kind(alloc, &kind)?),
     }
 }
 
-fn push_row(out: &mut String, path: &Path, kind: &Kind) -> Result<(), AllocError> {
+/// A kind with the path of an Alias's target made anew.
+fn own_kind(alloc: Global, kind: &Kind<SpacePath<'_>>) -> Result<Kind<Path>, AllocError> {
+    let target = match kind.target() {
+        None => Path::root(alloc),
+        Some(target) => target.to_path(alloc)?,
+    };
+    Ok(kind.aimed_at(target))
+}
+
+fn push_row(out: &mut String, path: &Path, kind: &Kind<Path>) -> Result<(), AllocError> {
     push_marked(out, path, kind, true, 1)
 }
 
@@ -331,7 +356,7 @@ fn push_row(out: &mut String, path: &Path, kind: &Kind) -> Result<(), AllocError
 fn push_marked(
     out: &mut String,
     path: &Path,
-    kind: &Kind,
+    kind: &Kind<Path>,
     sure: bool,
     times: usize,
 ) -> Result<(), AllocError> {
@@ -346,7 +371,7 @@ fn push_marked(
 }
 
 /// A path and its kind.
-fn push_kind(out: &mut String, path: &Path, kind: &Kind) -> Result<(), AllocError> {
+fn push_kind(out: &mut String, path: &Path, kind: &Kind<Path>) -> Result<(), AllocError> {
     let word = kind_word(kind);
     match kind {
         Kind::Method { args } => write!(out, "  {path} {word} {args}"),
@@ -355,7 +380,7 @@ fn push_kind(out: &mut String, path: &Path, kind: &Kind) -> Result<(), AllocErro
     }
 }
 
-fn kind_word(kind: &Kind) -> &'static str {
+fn kind_word(kind: &Kind<Path>) -> &'static str {
     match kind {
         Kind::Scope => "Scope",
         Kind::Name => "Name",
@@ -375,7 +400,7 @@ fn kind_word(kind: &Kind) -> &'static str {
 }
 
 /// The kind of these words; a Name where they are no other.
-fn kind_of(alloc: Global, words: &str) -> Result<Kind, AllocError> {
+fn kind_of(alloc: Global, words: &str) -> Result<Kind<Path>, AllocError> {
     let (word, more) = first_word(words);
     Ok(match word {
         "Method" => Kind::Method {
@@ -383,7 +408,7 @@ fn kind_of(alloc: Global, words: &str) -> Result<Kind, AllocError> {
         },
         "Alias" | "OpenAlias" => Kind::Alias {
             is_open: word == "OpenAlias",
-            target: Target::new(alloc, ScopedPath::whole(alloc, path_of(alloc, more)?)?)?,
+            target: path_of(alloc, more)?,
         },
         "Mutex" => Kind::Mutex,
         "Device" => Kind::Device,

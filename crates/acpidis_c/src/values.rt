@@ -11,7 +11,7 @@ use crate::code::{Ended, Fault};
 use crate::contents::{BodyValue, MethodValue, RowValue, Values};
 use aml_names::{CodeFault, Seg};
 use aml_set::Method;
-use aml_space::{Kind, Row, Space};
+use aml_space::{Kind, Row, Space, SpacePath};
 use asl_text::print_segments;
 use std::alloc::Global;
 use std::io::Write;
@@ -48,13 +48,13 @@ fn put_path(texts: &mut Vec<u8>, segs: &[Seg]) -> Ended
 }
 
 /// Puts the text of the path that an Alias leads to behind others.
-fn put_target(alloc: Global, texts: &mut Vec<u8>, kind: &Kind) -> Ended
+fn put_target(alloc: Global, texts: &mut Vec<u8>, kind: &Kind<SpacePath<'_>>) -> Ended
     ensures put { OnOk result (texts.new.items ≡ texts.old.items ++ target_text kind.now) }
     ensures stops { IfErr result IsNoMemory }
 {
     match kind {
         Kind::Alias { target, .. } => {
-            let path = target.parts().behind(alloc, 0)?;
+            let path = target.to_path(alloc)?;
             put_path(texts, path.segs())
         }
         _ => Ok(()),
@@ -62,7 +62,7 @@ fn put_target(alloc: Global, texts: &mut Vec<u8>, kind: &Kind) -> Ended
 }
 
 /// The number of a kind.
-fn number_of(kind: &Kind) -> u32
+fn number_of(kind: &Kind<SpacePath<'_>>) -> u32
     ensures { result ≡ kind_number kind.now }
 {
     match kind {
@@ -84,7 +84,7 @@ fn number_of(kind: &Kind) -> u32
 }
 
 /// The number of arguments of a method, and 0 of another kind.
-fn arguments_of(kind: &Kind) -> u32
+fn arguments_of(kind: &Kind<SpacePath<'_>>) -> u32
     ensures { result ≡ arguments_of kind.now }
 {
     match kind {
@@ -103,14 +103,15 @@ fn row_value(alloc: Global, texts: &mut Vec<u8>, row: &Row<'_>) -> Result<RowVal
     let path = row.path().to_path(alloc)?;
     put_path(texts, path.segs())?;
     let target = texts.len();
-    put_target(alloc, texts, row.kind())?;
+    let kind = row.kind();
+    put_target(alloc, texts, &kind)?;
     Ok(RowValue {
         at,
         path: target - at,
         target: texts.len() - target,
         times: row.times(),
-        kind: number_of(row.kind()),
-        arguments: arguments_of(row.kind()),
+        kind: number_of(&kind),
+        arguments: arguments_of(&kind),
         maybe: if row.is_sure() { 0 } else { 1 },
     })
 }

@@ -31,6 +31,7 @@ use Rattle.aml_load.specs.Loading.{role_of, kind_of}
 use Rattle.aml_runs.specs.TableRuns.{is_passed, with_path, gained_at, path_in, found_in, units_gained, alias_gained}
 use Rattle.aml_runs.specs.TableRuns.{RunsInside, RunsObject, may_open, RunsScope, RunsAs, Runs, RunTail, RunTerms}
 use Rattle.aml_runs.specs.TableRuns.{RunTables, IsRunOf}
+use Rattle.aml_namespace.proofs.Said.{no_alias}
 
 -- no declared Alias aims at nothing
 abbrev pub Leads : Namespace → Type 0
@@ -38,26 +39,12 @@ Leads n = (q : List Seg) → IfSome (n.declared q) (λ k. leads n (Some k) ≡ t
 
 -- ---- Of predefined paths none is an Alias.
 
-no_alias_stands : (q : List Seg) → IfSome (predefined q) (λ k. is_alias k ≡ false)
-no_alias_stands [] = refl
-no_alias_stands (s ∷ []) = by (is_one_of ("_GPE" ∷ "_PR_" ∷ "_SB_" ∷ "_SI_" ∷ "_TZ_" ∷ []) s) (is_one_of ("_GL_" ∷ []) s)
-    (is_one_of ("_OS_" ∷ "_REV" ∷ []) s) (is_one_of ("_OSI" ∷ []) s)
-  where
-    by : (a b c d : Bool) → IfSome (cond a (Some kinds.Scope) (cond b (Some kinds.Mutex) (cond c (Some kinds.Name) (cond d (Some (kinds.Method 1)) None))))
-        (λ k. is_alias k ≡ false)
-    by true b c d = refl
-    by false true c d = refl
-    by false false true d = refl
-    by false false false true = refl
-    by false false false false = tt
-no_alias_stands (s ∷ t ∷ rest) = tt
-
 leads_anywhere : (n : Namespace) (k : Kind) → is_alias k ≡ false → leads n (Some k) ≡ true
 leads_anywhere n (kinds.Alias is_open target) plain = absurd (false≢true (sym plain))
 leads_anywhere n _ plain = refl
 
 all_lead : (n : Namespace) → Leads n → (q : List Seg) → IfSome (kind_at n q) (λ k. leads n (Some k) ≡ true)
-all_lead n here q = by (n.declared q) (here q) (predefined q) (no_alias_stands q)
+all_lead n here q = by (n.declared q) (here q) (predefined q) (no_alias q)
   where
     by : (o : Option Kind) → IfSome o (λ k. leads n (Some k) ≡ true) → (standing : Option Kind) → IfSome standing (λ k. is_alias k ≡ false)
         → IfSome (option_or o standing) (λ k. leads n (Some k) ≡ true)

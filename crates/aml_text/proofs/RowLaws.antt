@@ -1,9 +1,7 @@
 -- Segments that are printed in parts: with a dot between two parts they are those of the whole (`dotted_join`).
 use Rattle.aml_text.proofs.Common.{◌≡◌, ℕ, List, [], ◌∷◌, ◌++◌, map, flat_map, length, sym, ap, ◌∙◌, append_assoc, Seg}
 use Rattle.aml_text.proofs.Common.{word, ◌≤◌, arith}
-use Rattle.std.specs.Prelude.{◌==◌, true, false}
-use Rattle.std.proofs.lemmas.Bool.{eqb-true, false≢true}
-use Rattle.std.proofs.lemmas.List.{append-nil, map-append}
+use Rattle.std.proofs.lemmas.List.{map-append}
 use Rattle.std.proofs.lemmas.List.Concat.{flat_map-append}
 use Rattle.text_writer.proofs.PrintLaws.{straight}
 use Rattle.aml_namespace.specs.Known.{Declared}
@@ -28,19 +26,6 @@ dotted_join (s ∷ p) (t ∷ q) some more =
     ∙ sym (append_assoc (segment_text s) (flat_map each (map segment_text p)) (flat_map each (map segment_text (t ∷ q))))
     ∙ ap (λ text. (segment_text s ++ flat_map each (map segment_text p)) ++ text)
     (append_assoc (word ".") (segment_text t) (flat_map each (map segment_text q)))
-
--- where one of two parts has no segment, they are those of the other; else each part has some
-pub dotted_own : (p q : List Seg) → true ≡ (length p == 0) → dotted q ≡ dotted (p ++ q)
-dotted_own [] q none = refl
-dotted_own (s ∷ p) q none = absurd (omega (arith, eqb-true (length (s ∷ p)) 0 (sym none)))
-
-pub dotted_front : (p q : List Seg) → true ≡ (length q == 0) → dotted p ≡ dotted (p ++ q)
-dotted_front p [] none = ap dotted (sym (append-nil p))
-dotted_front p (t ∷ q) none = absurd (omega (arith, eqb-true (length (t ∷ q)) 0 (sym none)))
-
-pub has_some : (p : List Seg) → false ≡ (length p == 0) → 1 ≤ length p
-has_some [] some = absurd (false≢true some)
-has_some (s ∷ p) some = omega arith
 
 -- ---- texts by their parts
 

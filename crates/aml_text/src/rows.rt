@@ -8,8 +8,8 @@ ghost use Rattle.asl_text.specs.Texts.{line, segment_text, separated};
 ghost use Rattle.aml_text.specs.Rows.{path_text, kind_text, maybe_text, times_text, marked_text, row_line};
 ghost use Rattle.aml_text.specs.Rows.{namespace_text};
 
-use aml_names::{Parts, Seg};
-use aml_space::{Kind, Row, Rows, Space, SpacePath, Target};
+use aml_names::Seg;
+use aml_space::{Kind, Row, Rows, Space, SpacePath};
 use asl_text::{print_indent, print_segments};
 use std::io::Write;
 use text_writer::{Out, print_decimal};
@@ -28,31 +28,6 @@ fn print_root<W: Write>(out: &mut Out<'_, W>)
     out.put(b"\\");
 }
 
-/// The segments of two parts of a path, with a dot between two.
-fn print_joined<W: Write>(out: &mut Out<'_, W>, front: &[Seg], own: &[Seg])
-    ensures { Prints W.contents out.old out.new
-        (separated (word ".") (map_list segment_text (front.now ++ own.now))) }
-{
-    if front.is_empty() {
-        return print_segments(out, own);
-    }
-    print_segments(out, front);
-    if own.is_empty() {
-        return;
-    }
-    out.put(b".");
-    print_segments(out, own);
-}
-
-/// A path: `\` and its segments, with a dot between two.
-fn print_path<W: Write>(out: &mut Out<'_, W>, path: &Parts<'_>)
-    ensures { Prints W.contents out.old out.new (path_text path.now) }
-{
-    print_root(out);
-    let (front, own) = path.slices();
-    print_joined(out, front, own);
-}
-
 fn print_method<W: Write>(out: &mut Out<'_, W>, args: u8)
     ensures { Prints W.contents out.old out.new (kind_text (Kind.Method args)) }
 {
@@ -60,22 +35,44 @@ fn print_method<W: Write>(out: &mut Out<'_, W>, args: u8)
     print_decimal(out, args as u64);
 }
 
-fn print_alias<W: Write>(out: &mut Out<'_, W>, target: &Target)
-    ensures { Prints W.contents out.old out.new (kind_text (Kind.Alias false target.now)) }
+/// A path, as many segments at a time as a window takes, so that it needs no memory of its own.
+fn print_path<W: Write>(out: &mut Out<'_, W>, path: &SpacePath<'_>, window: &mut [Seg])
+    requires room { 1 ≤ length window.old }
+    ensures text { Prints W.contents out.old out.new (path_text path.now) }
+    ensures long { length window.new ≡ length window.old }
+{
+    let depth = path.depth();
+    let mut done = path.copy_segs(0, window);
+    print_root(out);
+    print_segments(out, &window[..done]);
+    while done < depth {
+        let count = path.copy_segs(done, window);
+        out.put(b".");
+        print_segments(out, &window[..count]);
+        done += count;
+    }
+}
+
+fn print_alias<W: Write>(out: &mut Out<'_, W>, target: &SpacePath<'_>, window: &mut [Seg])
+    requires room { 1 ≤ length window.old }
+    ensures text { Prints W.contents out.old out.new (kind_text (Kind.Alias false target.now)) }
+    ensures long { length window.new ≡ length window.old }
 {
     out.put(b"Alias ");
-    print_path(out, &target.parts());
+    print_path(out, target, window);
 }
 
 /// What a path stands for.
-fn print_kind<W: Write>(out: &mut Out<'_, W>, kind: &Kind)
-    ensures { Prints W.contents out.old out.new (kind_text kind.now) }
+fn print_kind<W: Write>(out: &mut Out<'_, W>, kind: &Kind<SpacePath<'_>>, window: &mut [Seg])
+    requires room { 1 ≤ length window.old }
+    ensures text { Prints W.contents out.old out.new (kind_text kind.now) }
+    ensures long { length window.new ≡ length window.old }
 {
     match kind {
         Kind::Scope => out.put(b"Scope"),
         Kind::Name => out.put(b"Name"),
         Kind::Method { args } => print_method(out, *args),
-        Kind::Alias { target, .. } => print_alias(out, target),
+        Kind::Alias { target, .. } => print_alias(out, target, window),
         Kind::Device => out.put(b"Device"),
         Kind::Processor => out.put(b"Processor"),
         Kind::PowerResource => out.put(b"PowerResource"),
@@ -116,31 +113,15 @@ fn print_marks<W: Write>(out: &mut Out<'_, W>, sure: bool, times: usize)
     print_times(out, times);
 }
 
-/// A path, as many segments at a time as a window takes, so that it needs no memory of its own.
-fn print_row_path<W: Write>(out: &mut Out<'_, W>, path: &SpacePath<'_>, window: &mut [Seg])
+/// What a row says of its path.
+fn print_said<W: Write>(out: &mut Out<'_, W>, row: &Row<'_>, window: &mut [Seg])
     requires room { 1 ≤ length window.old }
-    ensures text { Prints W.contents out.old out.new (path_text path.now) }
+    ensures text { Prints W.contents out.old out.new
+        (word " " ++ kind_text row.now.1.kind ++ (maybe_text row.now.1.sure ++ times_text row.now.1.times)) }
     ensures long { length window.new ≡ length window.old }
 {
-    let depth = path.depth();
-    let mut done = path.copy_segs(0, window);
-    print_root(out);
-    print_segments(out, &window[..done]);
-    while done < depth {
-        let count = path.copy_segs(done, window);
-        out.put(b".");
-        print_segments(out, &window[..count]);
-        done += count;
-    }
-}
-
-/// What a row says of its path.
-fn print_said<W: Write>(out: &mut Out<'_, W>, row: &Row<'_>)
-    ensures { Prints W.contents out.old out.new
-        (word " " ++ kind_text row.now.1.kind ++ (maybe_text row.now.1.sure ++ times_text row.now.1.times)) }
-{
     out.put(b" ");
-    print_kind(out, row.kind());
+    print_kind(out, &row.kind(), window);
     print_marks(out, row.is_sure(), row.times());
 }
 
@@ -150,8 +131,8 @@ fn print_marked<W: Write>(out: &mut Out<'_, W>, row: &Row<'_>, window: &mut [Seg
     ensures text { Prints W.contents out.old out.new (marked_text row.now) }
     ensures long { length window.new ≡ length window.old }
 {
-    print_row_path(out, &row.path(), window);
-    print_said(out, row);
+    print_path(out, &row.path(), window);
+    print_said(out, row, window);
 }
 
 /// The line of a path with its kind.
@@ -196,6 +177,16 @@ fn print_deep<W: Write>(out: &mut Out<'_, W>, row: &Row<'_>, others: Rows<'_>)
     print_others(out, others, &mut window);
 }
 
+/// Whether a row has a path, or an Alias's target, that is deeper than the small window.
+fn is_deep(row: &Row<'_>) -> bool {
+    let kind = row.kind();
+    let target = match kind.target() {
+        None => 0,
+        Some(target) => target.depth(),
+    };
+    row.path().depth().max(target) > SMALL_WINDOW
+}
+
 /// The lines of rows.
 fn print_lines<W: Write>(out: &mut Out<'_, W>, rows: Rows<'_>)
     ensures { Prints W.contents out.old out.new (flat_map row_line rows.entry) }
@@ -203,7 +194,7 @@ fn print_lines<W: Write>(out: &mut Out<'_, W>, rows: Rows<'_>)
     let mut window = [Seg::default(); SMALL_WINDOW];
     let mut left = rows;
     'rows: while let Some(row) = left.next() {
-        if row.path().depth() > SMALL_WINDOW {
+        if is_deep(&row) {
             return print_deep(out, &row, left);
         }
         print_row(out, &row, &mut window);

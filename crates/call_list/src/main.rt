@@ -109,21 +109,23 @@ impl Caller<'_> {
 
     /// Adds a name with so many arguments where it is a call: where it has any, or means a method.
     fn push_name(&self, out: &mut String, name: &Name, count: usize) -> Result<(), AllocError> {
-        match self.space.find(self.alloc, self.path, name)? {
-            Some(path) if count > 0 || self.is_method(&path) => {
-                writeln!(out, "{} {path} {count}", self.path)
-            }
-            _ => Ok(()),
+        let Some(path) = self.space.find(self.alloc, self.path, name)? else {
+            return Ok(());
+        };
+        if count > 0 || self.is_method(&path)? {
+            writeln!(out, "{} {path} {count}", self.path)?;
         }
+        Ok(())
     }
 
-    fn is_method(&self, path: &Path) -> bool {
-        match self.space.kind(path) {
-            Some(Kind::Alias { target, .. }) => matches!(
-                self.space.kind_of(&target.parts()),
-                Some(Kind::Method { .. })
-            ),
-            kind => matches!(kind, Some(Kind::Method { .. })),
-        }
+    fn is_method(&self, path: &Path) -> Result<bool, AllocError> {
+        let kind = match self.space.kind(path) {
+            Some(Kind::Alias { target, .. }) => {
+                let path = target.to_path(self.alloc)?;
+                return Ok(matches!(self.space.kind(&path), Some(Kind::Method { .. })));
+            }
+            kind => kind,
+        };
+        Ok(matches!(kind, Some(Kind::Method { .. })))
     }
 }

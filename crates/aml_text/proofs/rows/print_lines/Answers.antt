@@ -9,8 +9,8 @@ pub rows-preserved : goal.rows-preserved
 rows-preserved g c =
     printed_more g.W.Write.contents _ _ _ _ _ _ _ c.rows.invariant (sym c.next.ensures.row ∙ c.in-Some.is) c.next.ensures.rest c.print_row.ensures.text
 
-pub returns-then-depth-gt-SMALL_WINDOW : goal.returns-then-depth-gt-SMALL_WINDOW
-returns-then-depth-gt-SMALL_WINDOW g c =
+pub returns-then-is_deep : goal.returns-then-is_deep
+returns-then-is_deep g c =
     printed_rest g.W.Write.contents _ _ _ _ _ _ _ c.rows.invariant (sym c.next.ensures.row ∙ c.in-Some.is) c.next.ensures.rest c.print_deep.ensures
 
 pub returns : goal.returns

@@ -10,5 +10,5 @@ returns-clause-text g c =
     let marks = maybe_text row.1.sure ++ times_text row.1.times in
     subst (Prints g.W.Write.contents c.args.out.now c.print_said.new.out)
     (sym (append_assoc path (word " " ++ kind) marks) ∙ ap (λ (text : List ℕ). text ++ marks) (sym (append_assoc path (word " ") kind)))
-    (prints_then g.W.Write.contents c.args.out.now c.print_row_path.new.out c.print_said.new.out path (word " " ++ kind ++ marks)
-    (rw c.path.ensures at c.print_row_path.ensures.text) c.print_said.ensures)
+    (prints_then g.W.Write.contents c.args.out.now c.print_path.new.out c.print_said.new.out path (word " " ++ kind ++ marks)
+    (rw c.path.ensures at c.print_path.ensures.text) c.print_said.ensures.text)

@@ -1,7 +1,7 @@
 use Rattle.std.specs.Prelude.{◌-◌, take}
 use Rattle.aml_text.proofs.Common.{◌≡◌, ◌<◌, ◌≤◌, ◌++◌, length, map, Prints, word}
 use Rattle.asl_text.specs.Texts.{separated, segment_text}
-use Rattle.aml_text.proofs.rows.print_row_path.Given as goal
+use Rattle.aml_text.proofs.rows.print_path.Given as goal
 
 abbrev pub invariant-loop-done : goal.invariant-loop-done
 invariant-loop-done g l = record {
