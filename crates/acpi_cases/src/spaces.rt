@@ -178,12 +178,7 @@ impl Names<'_> {
     }
 
     /// The same, and whether it was found by some comparisons, but at most 64 a segment.
-    fn push_counted(
-        &self,
-        alloc: Global,
-        out: &mut String,
-        path: &Path,
-    ) -> Result<(), AllocError> {
+    fn push_counted(&self, alloc: Global, out: &mut String, path: &Path) -> Result<(), AllocError> {
         let (kind, compared) = self.space.kind_counted(path);
         push_row_or_none(alloc, out, path, kind)?;
         let most = 64 * path.segs().len() as u128;

@@ -246,14 +246,10 @@ impl Progress {
         let near = path.near(site.place);
         let sure = self.is_sure_here(site, path, source);
         if site.any_run {
-            self.space
-                .put_again(near, &path.path.parts(), kind, sure)?;
+            self.space.put_again(near, &path.path.parts(), kind, sure)?;
             return Ok(());
         }
-        if self
-            .space
-            .put_once(near, &path.path.parts(), kind, sure)?
-        {
+        if self.space.put_once(near, &path.path.parts(), kind, sure)? {
             return Ok(());
         }
         let taken = SpaceFault::Duplicate(path.path.to_path(self.alloc)?);

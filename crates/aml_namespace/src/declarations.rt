@@ -64,7 +64,12 @@ impl Declarations {
     }
 
     /// One declaration more. A refused one changes nothing.
-    pub fn declare(&mut self, alloc: Global, kind: Kind<PathId>, sure: bool) -> Result<(), AllocError>
+    pub fn declare(
+        &mut self,
+        alloc: Global,
+        kind: Kind<PathId>,
+        sure: bool,
+    ) -> Result<(), AllocError>
         ensures ok { OnOk result (self.new ≡ again self.old kind sure) }
         ensures err { OnErr result (self.new ≡ self.old) }
     {

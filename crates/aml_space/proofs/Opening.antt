@@ -1,7 +1,7 @@
 -- Scopes that are open lead to their nodes also where paths keep theirs (`kept_opened`), as they do where other
 -- content comes to a node (`content_kept`), and by one step behind another (`kept_on`); and so does one more
 -- (`more_opened`). Their nodes' numbers are theirs (`open_number`). Numbers stand for the same paths then (`known_again`); a path's is its
--- node's (`numbered`). 
+-- node's (`numbered`).
 use Rattle.std.specs.Prelude.{slice_get}
 use Rattle.std.specs.FinMap as map
 use Rattle.std.proofs.Common.{◌≡◌, ℕ, zero, suc, List, [], ◌∷◌, ◌++◌, Option, Some, None, IfSome, refl, sym, ap, subst, ◌∙◌}

@@ -36,11 +36,7 @@ pub(crate) fn kind_met(
 }
 
 /// Whether a path has a kind, or an External names it, by its node and its predefined kind.
-pub(crate) fn known_met(
-    nodes: &[Node],
-    node: Option<usize>,
-    standing: Option<Kind<PathId>>,
-) -> bool
+pub(crate) fn known_met(nodes: &[Node], node: Option<usize>, standing: Option<Kind<PathId>>) -> bool
     requires { IfSome node (λ i. i < length nodes.now) }
     ensures { result ≡ (is_some (option_or (option_and_then (kinds_of nodes.now) node) (kind_shown nodes.now standing))
         || is_some (option_and_then (outs_of nodes.now) node)) }
@@ -228,11 +224,7 @@ pub(crate) fn sure_met(nodes: &[Node], node: Option<usize>, standing: Option<Kin
 }
 
 /// Whether a Scope may open a path in every run, by its node and its predefined kind.
-pub(crate) fn scope_met(
-    nodes: &[Node],
-    node: Option<usize>,
-    standing: Option<Kind<PathId>>,
-) -> bool
+pub(crate) fn scope_met(nodes: &[Node], node: Option<usize>, standing: Option<Kind<PathId>>) -> bool
     requires { IfSome node (λ i. i < length nodes.now) }
     ensures { let said = option_and_then (declared_of nodes.now) node in let other = kind_shown nodes.now standing in
         result ≡ (sure_by said other && list_all opens_a_scope (kinds_by said other)) }

@@ -71,12 +71,7 @@ pub(crate) struct Candidate {
 
 impl<'a> Scope<'a> {
     /// By how far the path leads in the index.
-    pub(crate) fn new(
-        nodes: &'a [Node],
-        ways: &'a Ways,
-        path: Parts<'a>,
-        reach: Reach,
-    ) -> Scope<'a>
+    pub(crate) fn new(nodes: &'a [Node], ways: &'a Ways, path: Parts<'a>, reach: Reach) -> Scope<'a>
         requires index { IsIndex nodes.now }
         requires ways { AreWays nodes.now ways.now }
         requires reach { Reaches nodes.now path reach }
@@ -97,11 +92,7 @@ impl<'a> Scope<'a> {
     }
 
     /// The path of a node.
-    pub(crate) fn at(
-        nodes: &'a [Node],
-        ways: &'a Ways,
-        node: usize,
-    ) -> Scope<'a>
+    pub(crate) fn at(nodes: &'a [Node], ways: &'a Ways, node: usize) -> Scope<'a>
         requires index { IsIndex nodes.now }
         requires ways { AreWays nodes.now ways.now }
         requires within { node < length nodes.now }

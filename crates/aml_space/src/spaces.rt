@@ -24,9 +24,7 @@ use crate::growing::{Reach, declare_again, declare_first, extend, is_taken, set_
 use crate::ids::{SpacePath, numbered};
 use crate::listing::{Rows, list_rows};
 use crate::nodes::Node;
-use crate::opened::{
-    Hints, Near, Opened, keep_scope, node_near, owed_in, reach_near,
-};
+use crate::opened::{Hints, Near, Opened, keep_scope, node_near, owed_in, reach_near};
 use crate::rows::Row;
 use crate::scopes::{NEAR, Scope};
 use crate::walking::{kind_at, seen_kind, walk_counted};
@@ -162,7 +160,12 @@ impl Space {
 
     /// Declares a path once more, or for the first time: surely, or so that it stands in some runs of the code outside
     /// methods alone. A refused declaration changes nothing that is known of paths.
-    pub fn declare_again(&mut self, path: Path, kind: Kind<Path>, sure: bool) -> Result<(), NoMemory>
+    pub fn declare_again(
+        &mut self,
+        path: Path,
+        kind: Kind<Path>,
+        sure: bool,
+    ) -> Result<(), NoMemory>
         ensures ok { OnOk result (Grows (with_again self.old path kind sure) self.new) }
         ensures stands { (es : List Entry) (body : Option Body) → StandsFor self.old es →
             OnOk result (StandsFor self.new (es ++ declares path kind body sure ∷ [])) }
@@ -321,8 +324,8 @@ impl Space {
     {
         match self.declared(near, path) {
             Some(Kind::Alias { target, .. }) => {
-                let node = numbered(self.nodes.as_slice(), target);
-                Ok(PathId::new(node))
+                let at = numbered(self.nodes.as_slice(), target);
+                Ok(PathId::new(at))
             }
             _ => self.number(near, path),
         }
@@ -441,10 +444,7 @@ impl Space {
         ensures few { result.1 ≤ 64 * length path.now }
     {
         let (declared, compared) = self.declared_counted(path);
-        let kind = match declared {
-            Some(kind) => Some(kind),
-            None => predefined_kind(path.segs()),
-        };
+        let kind = declared.or(predefined_kind(path.segs()));
         (self.shown(kind), compared)
     }
 

@@ -16,10 +16,10 @@ returns-in-Some-Alias-clause-ok c =
     let path = c.args.path.now in
     let nodes = c.as_slice.ensures.value in
     let paths = ap paths_in nodes ∙ ap (λ (k : Known). k.paths) c.self.view_is in
-    let at = c.numbered-node.result in
+    let at = c.numbered-at.result in
     let is = subst IsIndex (sym nodes) c.self.invariant.index in
     let target : target_by (option_or ((namespace_in k).declared path) (predefined path)) path ≡ target_in k.paths c.in-Some-Alias.target =
     ap (λ o. target_by (option_or o (predefined path)) path) (sym c.declared.ensures ∙ ap (option_map (kind_in k.paths)) c.in-Some-Alias.is)
     ∙ ap (λ kind. target_by (Some (kind_in k.paths kind)) path) c.in-Some-Alias.field-0-is in
-    (λ i. slice_get (sym paths i) (c.new.ensures i)) ∙ numbered ns is (path_of ns at) at (is.there at c.numbered-node.ensures.within)
-    ∙ ap (λ p. Some p) (c.numbered-node.ensures.path ∙ ap (λ ps. target_in ps c.in-Some-Alias.target) paths ∙ sym target)
+    (λ i. slice_get (sym paths i) (c.new.ensures i)) ∙ numbered ns is (path_of ns at) at (is.there at c.numbered-at.ensures.within)
+    ∙ ap (λ p. Some p) (c.numbered-at.ensures.path ∙ ap (λ ps. target_in ps c.in-Some-Alias.target) paths ∙ sym target)
