@@ -28,7 +28,7 @@ struct large {
 };
 
 /* Blocks begin at multiples of UNIT, as malloc's. */
-enum { UNIT = 16, LEAST = 1 << 14, MOST = 1 << 18 };
+enum { UNIT = 16, LEAST = 1 << 14, MOST = 1 << 20 };
 
 static __thread struct acpidis_heap *heap __attribute__((tls_model("initial-exec")));
 
@@ -86,6 +86,19 @@ static void *take_own(size_t size) {
     return own + UNIT;
 }
 
+/* Cuts a piece of the newest large block, or of one more. */
+static void *cut(size_t whole) {
+    char *piece;
+    if (whole > heap->left && !grow())
+        return NULL;
+    piece = heap->next;
+    heap->next += whole;
+    heap->left -= whole;
+    head_of(piece)->from = (uint32_t)(piece - (char *)heap->newest);
+    head_of(piece)->size = (uint32_t)whole;
+    return piece;
+}
+
 static void *take(size_t size) {
     size_t whole = (size + sizeof(struct head) + UNIT - 1) / UNIT * UNIT;
     void **idle, *piece;
@@ -96,13 +109,9 @@ static void *take(size_t size) {
     if (piece != NULL)
         *idle = *(void **)piece;
     else {
-        if (whole > heap->left && !grow())
+        piece = cut(whole);
+        if (piece == NULL)
             return NULL;
-        piece = heap->next;
-        heap->next += whole;
-        heap->left -= whole;
-        head_of(piece)->from = (uint32_t)((char *)piece - (char *)heap->newest);
-        head_of(piece)->size = (uint32_t)whole;
     }
     large_of(piece)->taken++;
     return piece;
@@ -135,9 +144,8 @@ static void *resize(void *at, size_t kept, size_t size) {
 }
 
 static struct tried tried(void *at) {
-    struct tried tried = { at != NULL, at };
-    if (at == NULL)
-        tried.at = &heap;
+    static char none;
+    struct tried tried = { at != NULL, at == NULL ? &none : at };
     return tried;
 }
 

@@ -6,7 +6,7 @@
 
 /* A block of more bytes than this is one of malloc's own. With 0 each is, so that valgrind sees it. */
 #ifndef ACPIDIS_PIECES
-#define ACPIDIS_PIECES 512
+#define ACPIDIS_PIECES 1024
 #endif
 
 /* Nothing is taken where all is 0. */

@@ -107,7 +107,7 @@ def try_edge(checks, room, lib, program):
 
 def try_heap(checks, room):
     """The memory of a set by itself, library_heap.c."""
-    for number, (flags, pieces) in enumerate(itertools.product((("-O2",), SANITIZED), (0, 64, 512))):
+    for number, (flags, pieces) in enumerate(itertools.product((("-O2",), SANITIZED), (0, 64, 1024))):
         made = room / f"heap_{number}"
         sources = TOP / "tests/library_heap.c", LIBRARY / "heap.c"
         if compiled(checks, "gcc", "-std=gnu11", *STRICT, *flags, f"-DACPIDIS_PIECES={pieces}", *sources, *COUNTED, "-o", made):

@@ -72,7 +72,7 @@ static uint32_t drawn(uint32_t below) {
 /* Most blocks are small, and some a little longer than a piece. */
 static size_t drawn_size(void) {
     uint32_t kind = drawn(8);
-    return kind == 0 ? drawn(MOST_BYTES) : kind == 1 ? 480 + drawn(64) : drawn(200);
+    return kind == 0 ? drawn(MOST_BYTES) : kind == 1 ? ACPIDIS_PIECES + drawn(64) - (ACPIDIS_PIECES > 32 ? 32 : 0) : drawn(200);
 }
 
 struct block {
