@@ -72,7 +72,7 @@ static acpidis_code add_folder(acpidis_set *set, const char *folder) {
 /* Prints the text of the last run, or its error lines. */
 static acpidis_code print(acpidis_set *set, size_t length, FILE *out,
                           acpidis_code copy(acpidis_set *, size_t, void *, size_t)) {
-    char part[4096];
+    static char part[65536];
     size_t from, some;
 
     for (from = 0; from < length; from += some) {

@@ -4,8 +4,9 @@
  *     library_c DUMP TEXT [SHORT]
  *
  * DUMP is a dump that has a listing, TEXT that listing, of a set where the dump is named "dump". It is linked with
- * --wrap=malloc and so on, so that it counts the blocks of memory and can refuse one. Each row prints a line; the last line
- * is 'N passed, M failed'. With SHORT there are fewer sets.
+ * --wrap=malloc and so on, so that it counts the blocks of memory and can refuse one. With ACPIDIS_PIECES as 0, for which the
+ * edge is compiled anew, each is one of malloc's. Each row prints a line; the last line is 'N passed, M failed'. With SHORT
+ * there are fewer sets.
  */
 #define _GNU_SOURCE
 #include <acpidis.h>
@@ -14,6 +15,13 @@
 #include <stdio.h>
 #include <stdlib.h>
 #include <string.h>
+
+/* More growths than this are refused with a code. A small set's pieces are of one large block. */
+#ifdef ACPIDIS_PIECES
+enum { FEW = 20 };
+#else
+enum { FEW = 1 };
+#endif
 
 static unsigned passed, failed;
 static unsigned char *dump, *wanted;
@@ -24,6 +32,7 @@ static __thread long blocks, calls, refused_call = -1;
 static __thread int within;
 
 void *__real_malloc(size_t size);
+void *__real_calloc(size_t count, size_t size);
 void *__real_realloc(void *block, size_t size);
 void __real_free(void *block);
 
@@ -33,6 +42,13 @@ static int is_refused(void) {
 
 void *__wrap_malloc(size_t size) {
     void *block = is_refused() ? NULL : __real_malloc(size);
+    if (within && block != NULL)
+        blocks++;
+    return block;
+}
+
+void *__wrap_calloc(size_t count, size_t size) {
+    void *block = is_refused() ? NULL : __real_calloc(count, size);
     if (within && block != NULL)
         blocks++;
     return block;
@@ -345,7 +361,7 @@ static void try_refusals(void) {
     }
     refused_call = -1;
     printf("%ld growths, of which %ld end a call\n", number, refused);
-    ROW(good && refused > 20 && code == ACPIDIS_OK);
+    ROW(good && refused > FEW && code == ACPIDIS_OK);
 }
 
 int main(int count, char **words) {

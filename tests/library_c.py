@@ -6,9 +6,10 @@
 PROGRAM is out/acpidis if left out, and each FOLDER is a folder of dumps of your own, or one that holds such folders.
 The library is linked of crates/acpidis_c, which is built first where that is needed. The example of the manual page
 and the calls of tests/library_c.c are compiled by gcc and clang, without a warning, and run plainly, under valgrind
-and with the address sanitizer. Python loads made-up sets of tests/oracle, with the options that come with each. A
-tool that isn't there is a row that fails. With --cost it is only said what calls take beside the program. The last
-line is 'N passed, M failed'.
+and with the address sanitizer, and the memory of a set by itself (tests/library_heap.c). A call takes at most 1.05 of
+the program's instructions. Python loads made-up sets of tests/oracle, with the options that come with each. A tool
+that isn't there is a row that fails. With --cost it is only said which processor time calls take beside the program.
+The last line is 'N passed, M failed'.
 """
 
 import ast
@@ -30,15 +31,21 @@ from compare import write_trial
 from made_aml import tables
 from made_sets import SetMaker
 from running import Options
+import sets
 
 LIBRARY, CRATE = TOP / "library", TOP / "crates/acpidis_c"
 sys.path.insert(0, str(LIBRARY))
 STRICT = ("-Wall", "-Wextra", "-Werror", "-D_POSIX_C_SOURCE=200809L", f"-I{LIBRARY}")
-COUNTED = tuple(f"-Wl,--wrap={name}" for name in ("malloc", "realloc", "free"))
+COUNTED = tuple(f"-Wl,--wrap={name}" for name in ("malloc", "calloc", "realloc", "free"))
 SANITIZED = ("-fsanitize=address,undefined", "-fno-omit-frame-pointer", "-g")
+# The edge with a block of malloc's for each that is asked for, so that these tools see all of them.
+ALONE = ("-DACPIDIS_PIECES=0", LIBRARY / "acpidis.c", LIBRARY / "heap.c", "-Wl,--allow-multiple-definition")
 VALGRIND = ("valgrind", "-q", "--leak-check=full", "--show-leak-kinds=all", "--error-exitcode=99")
 OPTIONS = ((), ("--any-run",), ("--any-run", "--unknown-zero"), ("--any-sum", "--check"), ("--any-run", "--check"))
 SEED = 0
+# A call may take this many times what the program takes.
+MOST_COST = 1.05
+RUNS = 25
 # The program says of a longer file of counts that it can't be read.
 MOST_COUNTS = 16_777_216
 
@@ -79,11 +86,13 @@ def try_edge(checks, room, lib, program):
     text.write_bytes(outcome(program, written(room / "one", {"dump": dump.read_bytes()}))[1])
     trials = {
         "plain": ((), (), ()),
+        "plain, without pieces": (ALONE, (), ("short",)),
         "valgrind": (("-g",), VALGRIND, ("short",)),
-        "sanitized": ((*SANITIZED, LIBRARY / "acpidis.c", "-Wl,--allow-multiple-definition"), (), ("short",)),
+        "valgrind, without pieces": (("-g", *ALONE), VALGRIND, ("short",)),
+        "sanitized, without pieces": ((*SANITIZED, *ALONE), (), ("short",)),
     }
     for name, (flags, before, after) in trials.items():
-        made = room / f"calls_{name}"
+        made = room / f"calls_{len(list(room.glob('calls_*')))}"
         words = ("gcc", "-std=gnu11", "-O1", *STRICT, *flags, source, *COUNTED, lib / "libacpidis.a", "-lpthread")
         if compiled(checks, *words, "-o", made):
             ran = run(*before, made, dump, text, *after)
@@ -91,8 +100,20 @@ def try_edge(checks, room, lib, program):
             good = ran.returncode == 0 and last[0].endswith(" passed, 0 failed")
             checks.is_so(f"the calls, {name}: {ran.stdout.decode()[-2000:]}{ran.stderr.decode()[-4000:]}", good)
     compiled(checks, "clang", "-std=gnu11", *STRICT, "-c", source, "-o", room / "calls.o")
-    compiled(checks, "clang", "-std=c99", *STRICT, "-fPIC", "-c", LIBRARY / "acpidis.c", "-o", room / "edge.o")
+    for part in "acpidis.c", "heap.c":
+        compiled(checks, "clang", "-std=c99", *STRICT, "-fPIC", "-c", LIBRARY / part, "-o", room / "edge.o")
     compiled(checks, "gcc", "-x", "c++", "-fsyntax-only", *STRICT, LIBRARY / "acpidis.h")
+
+
+def try_heap(checks, room):
+    """The memory of a set by itself, library_heap.c."""
+    for number, (flags, pieces) in enumerate(itertools.product((("-O2",), SANITIZED), (0, 64, 1024))):
+        made = room / f"heap_{number}"
+        sources = TOP / "tests/library_heap.c", LIBRARY / "heap.c"
+        if compiled(checks, "gcc", "-std=gnu11", *STRICT, *flags, f"-DACPIDIS_PIECES={pieces}", *sources, *COUNTED, "-o", made):
+            ran = run(made, 300000)
+            good = ran.returncode == 0 and ran.stdout.endswith(b" passed, 0 failed\n")
+            checks.is_so(f"the memory of a set, {flags}, {pieces}: {ran.stdout.decode()}{ran.stderr.decode()[-4000:]}", good)
 
 
 def try_example(checks, room, lib, program, folders):
@@ -217,13 +238,29 @@ def try_page(checks, acpidis, room):
     checks.is_so(f"the page: {ran.stdout.decode()}{ran.stderr.decode()}", good)
 
 
-def show_cost(room, lib, program, folders):
-    """Says what calls take beside the program."""
-    run("gcc", "-O2", *STRICT, LIBRARY / "example.c", *shared(lib), "-o", room / "example")
+def both_ways(checks, room, lib, program, folder):
+    """The words for the program with one worker, and for the example, which opens a set, takes its text and closes it."""
+    example = room / "example"
+    compiled(checks, "gcc", "-std=c99", "-O2", *STRICT, LIBRARY / "example.c", *shared(lib), "-o", example)
+    return (program, "--workers", "1", "--any-run", folder), (example, "--any-run", folder)
+
+
+def try_cost(checks, room, lib, program):
+    """The instructions of a call beside those of the program."""
+    folder = written(room / "devices", {"dsdt.dat": sets.devices(10_000)})
+    counts = []
+    for words in both_ways(checks, room, lib, program, folder):
+        ran = run("valgrind", "--tool=callgrind", f"--callgrind-out-file={room / 'counts'}", *words)
+        counts.append(int((re.search(rb"Collected : (\d+)", ran.stderr) or [0, 0])[1]))
+    print("instructions of the program, and of a call of the library: %d, %d" % tuple(counts))
+    checks.is_so(f"what a call takes: {counts}", 0 < counts[1] <= MOST_COST * counts[0])
+
+
+def show_cost(checks, room, lib, program, folders):
+    """Says what calls take beside the program: the best of some runs, the two in turn."""
     for folder in folders:
-        commands = (program, "--workers", "1", "--any-run", folder), (room / "example", "--any-run", folder)
-        pairs = [[timed(run, *words)[1] for words in commands] for _ in range(11)]
-        theirs, ours = (sorted(times)[5] for times in zip(*pairs))
+        ways = both_ways(checks, room, lib, program, folder)
+        theirs, ours = map(min, zip(*([timed(run, *words)[1] for words in ways] for _ in range(RUNS))))
         print(f"{folder}: the program {theirs * 1000:.1f} ms, the library {ours * 1000:.1f} ms, {ours / theirs:.3f}")
     acpidis = importlib.import_module("acpidis")
     files = {"dsdt.dat": (DEMO / "dsdt.dat").read_bytes()}
@@ -251,10 +288,12 @@ def main():
         given = [sorted(it for it in folder.iterdir() if it.is_dir()) or [folder] for folder in asked.folders]
         folders = [DEMO, *itertools.chain.from_iterable(given)]
         if asked.cost:
-            show_cost(room, lib, program, folders)
+            show_cost(checks, room, lib, program, folders)
             sys.exit()
         acpidis = importlib.import_module("acpidis")
         try_edge(checks, room, lib, program)
+        try_heap(checks, room)
+        try_cost(checks, room, lib, program)
         try_example(checks, room, lib, program, folders)
         try_page(checks, acpidis, room)
         try_python(checks, acpidis, program, folders, asked.sets)

@@ -58,7 +58,7 @@ fn listing_alone<O: Write, E: Write>(
         levels: levels.as_slice(),
     };
     let found = keep_bodies_alone(alloc, tables.set, options.unknown_zero, &keep)?;
-    print_listing(tables, options, keep, &found, out, err)
+    print_listing(tables, options, keep, found.as_slice(), out, err)
 }
 
 /// Writes a line for each table of a loaded set, and a line on `err` for each body that can't be read. Answers the
@@ -74,5 +74,5 @@ fn checks_alone<O: Write, E: Write>(
     ensures { Ends tables.entry.dumps.now options.now true (O.contents out.old) (O.contents out.new) result }
 {
     let found = keep_bodies_alone(alloc, tables.set, options.unknown_zero, &Trials { alloc })?;
-    print_trials(alloc, tables, options, &found, out, err)
+    print_trials(alloc, tables, options, found.as_slice(), out, err)
 }

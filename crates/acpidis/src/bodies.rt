@@ -9,7 +9,7 @@ use crate::crew::Crew;
 use crate::refusal::Refusal;
 use aml_code::CodeFault;
 use aml_load::read_span;
-use aml_pool::{Gate, NoMemory, PoolFault, Results, Work, harvest, harvest_alone};
+use aml_pool::{Gate, NoMemory, PoolFault, Results, Work, harvest};
 use aml_set::{Method, TableSet};
 use asl_text::Body;
 use std::alloc::Global;
@@ -130,19 +130,19 @@ where
     }
 }
 
-/// The caller alone reads them, and keeps something of each.
+/// The caller alone reads them one after the other, and keeps something of each.
 pub(crate) fn keep_bodies_alone<K: Keep>(
     alloc: Global,
     set: &TableSet<'_>,
     unknown_zero: bool,
     keep: &K,
-) -> Result<Results<K::Kept>, Refusal>
+) -> Result<Vec<K::Kept>, Refusal>
 where
     K::Kept: Drop,
     requires few { length set.now.methods.items ≤ 1048576 }
     ensures kept { IfOk result (λ r.
-        AreKeptOf (λ n. K.keeps keep.now n (body_in_set set.now n)) unknown_zero set.now r.items.items) }
-    ensures each { IfOk result (λ r. length r.items.items ≡ length set.now.methods.items) }
+        AreKeptOf (λ n. K.keeps keep.now n (body_in_set set.now n)) unknown_zero set.now r.items) }
+    ensures each { IfOk result (λ r. length r.items ≡ length set.now.methods.items) }
     ensures memory { IfErr result (λ e. e ≡ Refusal.NoMemory) }
 {
     let work = Keeping {
@@ -151,10 +151,15 @@ where
         unknown_zero,
         keep,
     };
-    match harvest_alone(alloc, set.methods.len() as u32, &work) {
-        Ok(results) => Ok(results),
-        Err(fault) => Err(pool_refusal(fault)),
+    let count = set.methods.len();
+    let mut kept = Vec::with_capacity(alloc, count)?;
+    for number in 0..count {
+        match work.work(number as u32) {
+            Ok(found) => kept.push(found)?,
+            Err(_) => return Err(Refusal::NoMemory),
+        }
     }
+    Ok(kept)
 }
 
 /// What a fault of the pool refuses a run for.

@@ -47,6 +47,5 @@ pub fn read_lines(
     ensures kept { IfOk result (λ r. AreKeptOf (λ _. IsKept AreLines) unknown_zero set.now r.items) }
     ensures memory { IfErr result (λ e. e ≡ Refusal.NoMemory) }
 {
-    let found = keep_bodies_alone(alloc, set, unknown_zero, &Lines { alloc })?;
-    Ok(found.items)
+    keep_bodies_alone(alloc, set, unknown_zero, &Lines { alloc })
 }

@@ -23,7 +23,7 @@ use acpi_tables::Dump;
 use aml_code::{CodeFault, NoMemory};
 use aml_load::LoadFault;
 use aml_names::Seg;
-use aml_pool::{Gate, Results};
+use aml_pool::Gate;
 use aml_set::TableSet;
 use aml_text::{BodyText, Tables, body_levels, write_printed};
 use std::alloc::Global;
@@ -149,7 +149,7 @@ fn run_listing<R: Threads + Wait + Sync, G: Gate + Sync, O: Write, E: Write>(
         levels: levels.as_slice(),
     };
     let found = keep_bodies(crew, set, options.unknown_zero, &keep)?;
-    let ended = print_listing(tables, options, keep, &found, out, err);
+    let ended = print_listing(tables, options, keep, found.items.as_slice(), out, err);
     forget((levels, found));
     ended
 }
@@ -160,18 +160,17 @@ pub(crate) fn print_listing<O: Write, E: Write>(
     tables: Tables<'_, '_>,
     options: &Options,
     keep: Texts<'_>,
-    found: &Results<Result<BodyText, CodeFault>>,
+    texts: &[Result<BodyText, CodeFault>],
     out: &mut O,
     err: &mut E,
 ) -> Result<u8, RunFault>
     requires set { IsSet tables.dumps.now options.now tables.set.now }
     requires levels { keep.levels.now ≡ levels_of (table_terms tables.set.now.tables.items) }
     requires kept { AreKeptOf (λ n. IsKept (IsText (get_or keep.levels.now n 0))) options.now.unknown_zero
-        tables.set.now found.now.items.items }
+        tables.set.now texts.now }
     ensures { Ends tables.entry.dumps.now options.now false (O.contents out.old) (O.contents out.new) result }
 {
     let _ = options;
-    let texts = found.items.as_slice();
     let room = room_for_paths(keep.alloc, tables.set, texts)?;
     write_printed(out, tables, texts)?;
     print_raw_bodies(tables.set, texts, room, err);
@@ -193,7 +192,14 @@ fn run_checks<R: Threads + Wait + Sync, G: Gate + Sync, O: Write, E: Write>(
 {
     let keep = Trials { alloc: crew.alloc };
     let found = keep_bodies(crew, tables.set, options.unknown_zero, &keep)?;
-    print_trials(crew.alloc, tables, options, &found, out, err)
+    print_trials(
+        crew.alloc,
+        tables,
+        options,
+        found.items.as_slice(),
+        out,
+        err,
+    )
 }
 
 /// Writes a line for each table of a loaded set whose bodies were tried so, and a line on `err` for each that can't be
@@ -202,19 +208,18 @@ pub(crate) fn print_trials<O: Write, E: Write>(
     alloc: Global,
     tables: Tables<'_, '_>,
     options: &Options,
-    found: &Results<Result<bool, CodeFault>>,
+    tried: &[Result<bool, CodeFault>],
     out: &mut O,
     err: &mut E,
 ) -> Result<u8, RunFault>
     requires set { IsSet tables.dumps.now options.now tables.set.now }
-    requires each { length found.now.items.items ≡ length tables.set.now.methods.items }
+    requires each { length tried.now ≡ length tables.set.now.methods.items }
     requires kept { AreKeptOf (λ n. IsKept (IsSame (body_in_set tables.set.now n))) options.now.unknown_zero
-        tables.set.now found.now.items.items }
+        tables.set.now tried.now }
     ensures { Ends tables.entry.dumps.now options.now true (O.contents out.old) (O.contents out.new) result }
 {
     let _ = options;
     let methods = tables.set.methods.as_slice();
-    let tried = found.items.as_slice();
     let checks = check_tables(alloc, &tables, methods, tried)?;
     let room = room_for_paths(alloc, tables.set, tried)?;
     write_tables(out, &tables, checks.as_slice())?;
