@@ -1,7 +1,7 @@
 -- What a term does itself is what declaring it forward lists, and where the terms inside it stand.
 use Rattle.std.specs.FinSet as set
 use Rattle.std.specs.Option.{ok_or, option_and_then, option_map, option_or}
-use Rattle.std.proofs.Common.{◌≡◌, ◌≤◌, ◌⊎◌, inl, inr, ℕ, ◌-◌, ◌+◌, Bool, true, false, not, ◌&&◌, ◌||◌, cond, List, [], ◌∷◌, ◌++◌}
+use Rattle.std.proofs.Common.{◌≡◌, ◌≤◌, ◌⊎◌, inl, inr, ℕ, ◌-◌, ◌+◌, Bool, true, false, not, ◌&&◌, cond, List, [], ◌∷◌, ◌++◌}
 use Rattle.std.proofs.Common.{length, Option, Some, None, is_some, Result, Ok, Err, refl, sym, ap, subst, ◌∙◌, arith, nat_le, ◌==◌}
 use Rattle.std.proofs.Common.{take}
 use Rattle.std.specs.Prelude.{option_to_list}
@@ -31,13 +31,13 @@ use Rattle.aml_space.specs.declared.faults.SpaceFault.TheVariants as faults
 use Rattle.aml_namespace.specs.Kinds.{Kind}
 use Rattle.aml_namespace.specs.declared.kinds.Kind.TheVariants as kinds
 use Rattle.aml_namespace.specs.Namespace.{Entry, external, declared_at, namespace_of, first_of, found, is_outside}
-use Rattle.aml_namespace.specs.Runs.{outlook_of, agreed_or, first_agreed, agreed_path, scope_in}
+use Rattle.aml_namespace.specs.Runs.{outlook_of, agreed_or, first_agreed, agreed_path}
 use Rattle.aml_load.specs.declared.faults.LoadFault.{LoadFault}
 use Rattle.aml_load.specs.declared.faults.LoadFault.TheVariants as loads
 use Rattle.aml_load.specs.Declaring.{◌>>=◌, strict, Listed, plus, most_methods, first_label, byte_of, body_span}
 use Rattle.aml_load.specs.Declaring.{lead_of, place_at, lead_at, entry_at, new_at, method_at, alias_at, external_at}
 use Rattle.aml_load.specs.Declaring.{units_at, declare_as}
-use Rattle.aml_load.specs.Loading.{role_of, kind_of, sure_here, Where, methods_of, plain_entry, method_entry}
+use Rattle.aml_load.specs.Loading.{role_of, kind_of, Where, methods_of, plain_entry, method_entry}
 use Rattle.aml_load.specs.Loading.{alias_entry, AddsUnits, in_object, in_scope, Does}
 use Rattle.aml_load.specs.Running.{Front, opened_by, opened_at, object_at, scope_at, enter_as}
 use Rattle.aml_load.proofs.Holding.{methods_more}

@@ -1,6 +1,5 @@
 -- What tables load to is what loading them step by step lists, and the other way round: terms that declare behind some
 -- entries are those that are declared forward, and their names agree where each of them does.
-use Rattle.std.specs.List.{All}
 use Rattle.std.specs.FinSet as set
 use Rattle.std.specs.Option.{option_map, unwrap_or}
 use Rattle.std.proofs.Common.{◌≡◌, ◌≤◌, ◌⊎◌, inl, inr, ℕ, zero, suc, ◌-◌, ◌+◌, Bool, true, false, not, List, [], ◌∷◌, ◌++◌, length, Option}
@@ -28,7 +27,7 @@ use Rattle.aml_parse.specs.Running.{has_terms, is_block, ReadsTerms, Opens}
 use Rattle.aml_parse.proofs.Forward.{is_run, runs_on}
 use Rattle.aml_namespace.specs.Namespace.{Entry, Givens}
 use Rattle.aml_load.specs.declared.faults.LoadFault.{LoadFault}
-use Rattle.aml_load.specs.Declaring.{◌>>=◌, strict, Listed, Use, use_count, first_listed, with_uses, term_uses}
+use Rattle.aml_load.specs.Declaring.{◌>>=◌, strict, Listed, Use, first_listed, with_uses, term_uses}
 use Rattle.aml_load.specs.Declaring.{most_methods, declare_as, declare, declare_inside, declare_all}
 use Rattle.aml_load.specs.Loading.{role_of, Where, methods_of, in_declaration, AddsUnits, Does, DoesTerm, emptied}
 use Rattle.aml_load.specs.Loading.{Agrees, TermsDeclare, TermDeclares, InsideDeclares, TermsRead, TermReads, TableLoads}

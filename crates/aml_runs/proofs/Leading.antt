@@ -20,7 +20,7 @@ use Rattle.aml_code.specs.Lawful.{last_label, field_names}
 use Rattle.aml_code.specs.Tree.{Tree, nothing, named, op, Trees, no_trees, tree_more, Parts, Tail, terms}
 use Rattle.aml_namespace.specs.Kinds.{Kind}
 use Rattle.aml_namespace.specs.declared.kinds.Kind.TheVariants as kinds
-use Rattle.aml_namespace.specs.Predefined.{is_one_of, predefined}
+use Rattle.aml_namespace.specs.Predefined.{predefined}
 use Rattle.aml_namespace.specs.Namespace.{Entry, Namespace, namespace_of, same_path, kind_at, decides}
 use Rattle.aml_namespace.specs.Runs.{opens_scope, is_alias, leads, stands, means, Finds}
 use Rattle.aml_namespace.proofs.Finding.{found_holds}

@@ -17,9 +17,8 @@ use Rattle.aml_children.specs.Children.{child_in, put}
 use Rattle.aml_space.specs.declared.nodes.Node.{Node}
 use Rattle.aml_children.specs.Numbered.{walk, IsFamily, links_up, segs_down}
 use Rattle.aml_space.specs.Nodes.{Content, nothing, kids_in, kids_of, links_of, depths_of, path_of, content_in, content_of}
-use Rattle.aml_space.specs.Nodes.{kinds_of, part_by, known_by, IsShape}
+use Rattle.aml_space.specs.Nodes.{part_by, known_by, IsShape}
 use Rattle.aml_space.specs.Nodes.{IsLinked, IsIndex, IsKept}
-use Rattle.aml_namespace.specs.Known.{declared_kind}
 use Rattle.aml_children.proofs.Family.{same_itself, found_put, wider_family, family_put}
 use Rattle.aml_space.proofs.Index.{part_at}
 use Rattle.aml_children.proofs.Walks.{kid_range, node_range, walk_push}

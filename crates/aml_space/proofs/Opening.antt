@@ -6,29 +6,19 @@ use Rattle.std.specs.Prelude.{slice_get}
 use Rattle.std.specs.FinMap as map
 use Rattle.std.proofs.Common.{◌≡◌, ℕ, zero, suc, List, [], ◌∷◌, ◌++◌, Option, Some, None, IfSome, refl, sym, ap, subst, ◌∙◌}
 use Rattle.std.proofs.Common.{length, take, drop, Result, Ok, Err, OnOk, OnErr}
-use Rattle.std.proofs.lemmas.List.{take-append-drop, length-take-le}
-use Rattle.std.proofs.lemmas.List.FromFn.{fill_by_all, get_or-map-range_with_len, length-map-range_with_len}
-use Rattle.std.proofs.lemmas.List.FromFn.{take-map-range_with_len}
-use Rattle.std.proofs.Common.{arith, Bool, false}
+use Rattle.std.proofs.lemmas.List.{length-take-le}
+use Rattle.std.proofs.Common.{arith}
 use Rattle.std.specs.Prelude.{◌<◌, ◌≤◌}
-use Rattle.std.proofs.lemmas.Bool.{false≢true}
 use Rattle.aml_names.specs.declared.segments.Seg.{Seg}
 use Rattle.aml_space.specs.declared.nodes.Node.{Node}
 use Rattle.aml_space.specs.declared.opened.Opened.{Opened}
 use Rattle.aml_children.specs.Numbered.{walk}
-use Rattle.std.specs.Option.{option_map, option_or, option_and_then, unwrap_or}
-use Rattle.std.proofs.lemmas.Option.{slice_get_read, slice_get-map}
-use Rattle.aml_namespace.specs.Kinds.{Kind}
-use Rattle.aml_namespace.specs.declared.kinds.Kind.TheVariants.{Alias}
-use Rattle.aml_namespace.specs.Namespace.{kind_at}
-use Rattle.aml_namespace.specs.Known.{Known, Grows, namespace_in, with_scopes, with_paths}
-use Rattle.aml_namespace.specs.Predefined.{predefined}
-use Rattle.aml_namespace.specs.Runs.{is_alias}
-use Rattle.aml_namespace.proofs.Said.{no_alias}
+use Rattle.std.specs.Option.{option_map}
+use Rattle.std.proofs.lemmas.Option.{slice_get-map}
+use Rattle.aml_namespace.specs.Known.{Known, Grows, with_scopes, with_paths}
 use Rattle.aml_space.specs.Near.{IsNear}
 use Rattle.aml_space.specs.declared.opened.Near.{Near}
-use Rattle.aml_space.specs.Nodes.{kids_of, kinds_of, known_by, path_of, Content, HasContent, IsIndex, IsKept}
-use Rattle.aml_space.proofs.Index.{kind_at_path}
+use Rattle.aml_space.specs.Nodes.{kids_of, known_by, path_of, Content, HasContent, IsIndex, IsKept}
 use Rattle.aml_space.specs.declared.ways.Ways.{Ways}
 use Rattle.aml_space.specs.Opened.{AreOpened, IsSpace, known_in, scopes_of}
 use Rattle.aml_space.proofs.Named.{path_led}

@@ -1,5 +1,5 @@
 -- A stepping stone of the proofs: the scopes that are open while tables load, and how a path stands near one.
-use Rattle.std.specs.Prelude.{◌≡◌, ℕ, ◌≤◌, Bool, List, length, take, slice_get, Option, Some, IfSome}
+use Rattle.std.specs.Prelude.{◌≡◌, ℕ, ◌≤◌, List, length, take, slice_get, Option, Some, IfSome}
 use Rattle.std.specs.Option.{option_map}
 use Rattle.aml_names.specs.declared.segments.Seg.{Seg}
 use Rattle.aml_space.specs.declared.opened.Near.{Near}

@@ -13,8 +13,8 @@ ghost use Rattle.aml_space.specs.Nodes.{kinds_of, declared_of, outs_of, known_by
 ghost use Rattle.aml_space.specs.Nodes.{IsIndex};
 ghost use Rattle.aml_namespace.specs.Tallies.{joined, counts_in, own_count, is_nothing};
 
-use crate::ids::numbered;
 use crate::nodes::Node;
+use crate::space_paths::numbered;
 use crate::walking::{declared_at, kind_at, node_of, out_at, standing_at};
 use aml_names::Path;
 use aml_namespace::{Counts, Declarations, Kind, PathId, own_counts, predefined_kind};

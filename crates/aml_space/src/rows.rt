@@ -2,8 +2,8 @@
 ghost use Rattle.std.specs.Prelude.{◌≡◌, ◌<◌, length};
 ghost use Rattle.aml_space.specs.Nodes.{path_of, paths_in, said_in, IsIndex};
 
-use crate::ids::SpacePath;
 use crate::nodes::Node;
+use crate::space_paths::SpacePath;
 use crate::walking::seen_kind;
 use aml_namespace::{Declarations, Kind};
 use std::marker::Model;

@@ -21,12 +21,12 @@ ghost use Rattle.aml_namespace.specs.Known.{is_declared as declared_yet, namespa
 use crate::counting::{count_of, open_met, scope_met, sure_met};
 use crate::faults::SpaceFault;
 use crate::growing::{Reach, declare_again, declare_first, extend, is_taken, set_given, set_out};
-use crate::ids::{SpacePath, numbered};
 use crate::listing::{Rows, list_rows};
 use crate::nodes::Node;
 use crate::opened::{Hints, Near, Opened, keep_scope, node_near, owed_in, reach_near};
 use crate::rows::Row;
 use crate::scopes::{NEAR, Scope};
+use crate::space_paths::{SpacePath, numbered};
 use crate::walking::{kind_at, seen_kind, walk_counted};
 use crate::ways::Ways;
 use aml_names::{NoMemory, Parts, Path, ScopedPath, Seg};

@@ -1,5 +1,4 @@
 use Rattle.std.proofs.Common.{Some, sym, ap, ◌∙◌}
-use Rattle.aml_namespace.specs.Kinds.{target_in}
 use Rattle.aml_namespace.specs.Namespace.{kind_at, target_count}
 use Rattle.aml_namespace.specs.Known.{namespace_in}
 use Rattle.aml_space.specs.Nodes.{known_by, path_of, paths_in}

@@ -1,5 +1,4 @@
 use Rattle.std.proofs.Common.{None, cond, map, sym, ap, ◌∙◌}
-use Rattle.aml_namespace.specs.Predefined.{predefined}
 use Rattle.aml_space.specs.Nodes.{known_by}
 use Rattle.aml_namespace.specs.Known.{kinds_by, outlook_in}
 use Rattle.aml_namespace.specs.Namespace.{target_count}

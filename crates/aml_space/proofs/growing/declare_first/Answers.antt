@@ -2,7 +2,6 @@ use Rattle.std.proofs.Common.{◌≡◌, length, drop, sym, subst, ap, ◌∙◌
 use Rattle.aml_namespace.specs.Kinds.{kind_in}
 use Rattle.aml_namespace.specs.Known.{once, with_declaration}
 use Rattle.aml_space.specs.Nodes.{known_by, paths_in, said_in, HasDeclared, IsIndex}
-use Rattle.aml_children.proofs.Walks.{node_range}
 use Rattle.aml_space.proofs.Index.{put_declared}
 use Rattle.aml_space.proofs.Opening.{content_kept, kept_on, more_paths}
 use Rattle.aml_space.proofs.Targets.{among_more, paths_long, said_grown}

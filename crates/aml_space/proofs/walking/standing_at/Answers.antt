@@ -1,7 +1,6 @@
 use Rattle.std.proofs.Common.{ℕ, [], ◌∷◌, sym, ap, ◌∙◌}
 use Rattle.aml_names.specs.declared.segments.Seg.{Seg}
 use Rattle.aml_namespace.specs.Predefined.{predefined}
-use Rattle.aml_space.specs.Nodes.{path_of}
 use Rattle.aml_space.proofs.Named.{only_segment}
 use Rattle.aml_space.proofs.walking.standing_at.Goals as goal
 

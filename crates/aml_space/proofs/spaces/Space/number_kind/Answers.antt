@@ -1,7 +1,7 @@
-use Rattle.std.proofs.Common.{IfSome, Some, ◌≡◌, length, refl, sym, subst, ap, ◌∙◌}
+use Rattle.std.proofs.Common.{IfSome, Some, ◌≡◌, length, sym, subst, ap, ◌∙◌}
 use Rattle.std.specs.Prelude.{slice_get}
 use Rattle.std.specs.Option.{option_copied}
-use Rattle.aml_namespace.specs.Kinds.{target_of, retarget, kind_in, IsAmong}
+use Rattle.aml_namespace.specs.Kinds.{target_of, kind_in, IsAmong}
 use Rattle.aml_namespace.proofs.Aimed.{kind_numbered}
 use Rattle.aml_space.proofs.spaces.Space.number_kind.Goals as goal
 use Rattle.aml_space.proofs.spaces.Space.number_kind.Goals.{in-None, in-Some+in_ok-target-in-Some, After-aimed_at}

@@ -1,9 +1,9 @@
-use Rattle.std.proofs.Common.{IfSome, ◌≡◌, false, ◌+◌, length, None}
+use Rattle.std.proofs.Common.{◌≡◌, false, ◌+◌, length, None}
 use Rattle.std.proofs.Common.{refl, sym, subst, ap, ◌∙◌, arith}
 use Rattle.std.specs.FinMap as map
 use Rattle.aml_space.specs.Nodes.{known_by, paths_in}
-use Rattle.aml_space.specs.Opened.{known_in, scopes_of}
-use Rattle.aml_namespace.specs.Known.{Known, Grows, namespace_in, once, with_declaration, with_again}
+use Rattle.aml_space.specs.Opened.{known_in}
+use Rattle.aml_namespace.specs.Known.{Known, Grows, once, with_declaration, with_again}
 use Rattle.aml_namespace.proofs.Numbers.{grows_not}
 use Rattle.aml_namespace.proofs.Stands.{stands_grown, stands_declared, again_first, none_from_test}
 use Rattle.aml_space.proofs.Index.{known_taken, one_declared}

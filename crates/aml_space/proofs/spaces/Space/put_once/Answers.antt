@@ -1,11 +1,11 @@
 use mathlib.Core.Bool.{true≢false}
-use Rattle.std.proofs.Common.{IfSome, ◌≡◌, ◌+◌, length, List, ◌++◌, ◌∷◌, [], None, is_some, not, true, false, refl, sym, subst}
+use Rattle.std.proofs.Common.{◌≡◌, ◌+◌, length, List, ◌++◌, ◌∷◌, [], None, is_some, not, true, false, refl, sym, subst}
 use Rattle.std.proofs.Common.{ap, ◌∙◌, arith}
 use Rattle.std.specs.FinMap as map
 use Rattle.aml_namespace.specs.Namespace.{Entry, declares, declared_at}
 use Rattle.aml_space.specs.Nodes.{known_by}
-use Rattle.aml_space.specs.Opened.{known_in, scopes_of}
-use Rattle.aml_namespace.specs.Known.{Known, StandsFor, Grows, namespace_in, once, with_declaration, is_declared}
+use Rattle.aml_space.specs.Opened.{known_in}
+use Rattle.aml_namespace.specs.Known.{Known, StandsFor, Grows, once, with_declaration, is_declared}
 use Rattle.aml_namespace.proofs.Numbers.{grows_not}
 use Rattle.aml_namespace.proofs.Stands.{stands_grown, stands_declared, again_first, none_from_test, declared_listed}
 use Rattle.aml_space.proofs.Index.{known_taken, one_declared}

@@ -1,7 +1,7 @@
 use Rattle.std.proofs.Common.{◌≡◌, ◌-◌, ◌≤◌, length, take, ap, ◌∙◌, arith}
 use Rattle.aml_space.specs.Nodes.{path_of}
 use Rattle.aml_space.proofs.Named.{last_part}
-use Rattle.aml_space.proofs.ids.SpacePath.copy_segs.Goals as goal
+use Rattle.aml_space.proofs.space_paths.SpacePath.copy_segs.Goals as goal
 
 pub returns-clause-copied : goal.returns-clause-copied
 returns-clause-copied c =

@@ -1,8 +1,8 @@
-use Rattle.std.proofs.Common.{◌≡◌, ◌<◌, ◌≤◌, [], length, get_or, sym, ap, ◌∙◌, arith}
+use Rattle.std.proofs.Common.{[], get_or, sym, ap, ◌∙◌, arith}
 use Rattle.std.proofs.lemmas.List.{get_or_past}
 use Rattle.aml_space.specs.Nodes.{paths_in}
 use Rattle.aml_space.proofs.Targets.{path_read, paths_long}
-use Rattle.aml_space.proofs.ids.numbered.Goals as goal
+use Rattle.aml_space.proofs.space_paths.numbered.Goals as goal
 
 pub returns-then-at-nodes-clause-path : goal.returns-then-at-nodes-clause-path
 returns-then-at-nodes-clause-path c =
