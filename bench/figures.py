@@ -26,8 +26,9 @@ import tempfile
 from collections import namedtuple
 
 import measuring
+import hostile_shapes as shapes
 import plot
-import sets
+from made_aml import tables
 
 README = measuring.TOP / "README.md"
 PICTURE = measuring.TOP / "docs/figures.svg"
@@ -44,33 +45,49 @@ OUTERMOST = b"X000"
 
 # A device of the compiled sets, as firmware has them, by its number
 DEVICE = (measuring.TOP / "bench/device.asl").read_text()
+MIXED = bytes.fromhex(
+    "700a0560"  # Store (0x05, Local0)
+    "700b341261"  # Store (0x1234, Local1)
+    "700c785634125c5f4f535f"  # Store (0x12345678, \_OS_)
+    "700e080706050403020162"  # Store (0x0102030405060708, Local2)
+    "72606162"  # Add (Local0, Local1, Local2)
+    "700d61626364656667680063"  # Store ("abcdefgh", Local3)
+    "a45f524556"  # Return (_REV)
+)
 
 
-def compiled(devices: int) -> bytes:
-    """A DSDT with so many devices, sixteen to a bus, by iasl."""
+def compiled(devices: int, times: int = 1) -> dict:
+    """A set of a DSDT with so many devices, sixteen to a bus, by iasl, as often, each time with another outermost device."""
     text = 'DefinitionBlock ("", "DSDT", 2, "BENCH", "FIGURES", 1) {\nDevice (\\_SB.' + OUTERMOST.decode() + ") {\n"
     for first in range(0, devices, DEVICES_OF_A_BUS):
         inner = [DEVICE % {"number": number} for number in range(min(DEVICES_OF_A_BUS, devices - first))]
         text += f"Device (B{first // DEVICES_OF_A_BUS:03X}) {{ Name (_ADR, 0x{first:08X}) {''.join(inner)} }}\n"
-    return sets.compiled(text + "} }\n")
-
-
-def repeated(table: bytes, times: int) -> bytes:
-    """A table with the terms of this one so many times, each with another outermost device."""
-    code = table[sets.HEADER_BYTES:]
+    with tempfile.TemporaryDirectory() as folder:
+        source = pathlib.Path(folder) / "bench.asl"
+        source.write_text(text + "} }\n")
+        subprocess.run(["iasl", "-p", "bench", source.name], cwd=folder, check=True, capture_output=True)
+        made = source.with_suffix(".aml").read_bytes()
+    if times == 1:
+        return {"dsdt.dat": made}
+    code = made[shapes.HEADER_BYTES:]
     assert code.count(OUTERMOST) == 1
-    return sets.table(b"".join(code.replace(OUTERMOST, b"X%03d" % number) for number in range(times)))
+    return tables(b"".join(code.replace(OUTERMOST, b"X%03d" % number) for number in range(times)))
+
+
+def long_body(size: int) -> dict:
+    """A set of a table of so many bytes with one method, in which the same terms stand again and again."""
+    return tables(shapes.method(b"MAIN", 0, MIXED * ((size - shapes.HEADER_BYTES - 10) // len(MIXED))))
 
 
 # The name of each set, and what makes its files. A device has some 420 bytes.
 SETS = (
-    ("10 KB", sets.one(lambda: compiled(24))),
-    ("40 KB", sets.one(lambda: compiled(95))),
-    ("1 MB", sets.one(lambda: compiled(2_360))),
-    ("16 MB", sets.one(lambda: repeated(compiled(2_360), 16))),
-    ("20,000 methods", sets.one(lambda: sets.many_methods(20_000))),
-    ("101 tables", sets.SETS["calls-101"]),
-    ("one long body", sets.one(lambda: sets.long_body(sets.MIXED, sets.SIZES["1"]))),
+    ("10 KB", lambda: compiled(24)),
+    ("40 KB", lambda: compiled(95)),
+    ("1 MB", lambda: compiled(2_360)),
+    ("16 MB", lambda: compiled(2_360, 16)),
+    ("20,000 methods", lambda: tables(shapes.many_methods(20_000))),
+    ("101 tables", lambda: shapes.calling_tables(101, 20, 2, b"\x08\x02")),
+    ("one long body", lambda: long_body(1 << 20)),
 )
 
 

@@ -2,7 +2,6 @@
 import argparse
 import os
 import pathlib
-import shutil
 import subprocess
 import sys
 import threading
@@ -10,6 +9,7 @@ import time
 from collections import namedtuple
 
 TOP = pathlib.Path(__file__).resolve().parent.parent
+sys.path[1:1] = [str(TOP / "tests"), str(TOP / "tests/oracle")]
 SECONDS = 60
 
 
@@ -27,16 +27,6 @@ def command_line(text, most_seconds=SECONDS):
     words.add_argument("--keep")
     words.add_argument("--seconds", type=float, default=most_seconds)
     return words
-
-
-def tools_of(asked):
-    """The program and iasl, each where it is there."""
-    program, compiler = shutil.which(os.path.abspath(asked.acpidis)), shutil.which("iasl")
-    if program is None:
-        print(f"{asked.acpidis} isn't built: only iasl is timed", file=sys.stderr)
-    if compiler is None:
-        print("iasl isn't installed: only acpidis is timed", file=sys.stderr)
-    return program, compiler
 
 
 def write_file(path, content):

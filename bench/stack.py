@@ -18,8 +18,9 @@ import subprocess
 import sys
 import tempfile
 
-import hostile_shapes as shapes
 import measuring
+import hostile_shapes as shapes
+from made_aml import tables
 
 LEVELS = 511
 STACK_KB = 8 << 10
@@ -81,7 +82,7 @@ def main():
     print("kind of nesting | listed | with --check")
     for name, code in codes.items():
         with tempfile.TemporaryDirectory() as folder:
-            measuring.write_file(pathlib.Path(folder) / "dsdt.dat", shapes.table(code))
+            (pathlib.Path(folder) / "dsdt.dat").write_bytes(tables(code)["dsdt.dat"])
             words = [program, "--workers", "1"]
             print(f"{name} | {touched_kb(words, folder)} KB | {touched_kb([*words, '--check'], folder)} KB", flush=True)
 

@@ -13,19 +13,18 @@ that fails ends it. The last line is 'N passed, N failed'.
 import concurrent.futures
 import itertools
 import os
-import pathlib
 import random
 import re
 import shutil
 import subprocess
 
-# Before the others, whose places it tells
-from tally import DEMO, PROGRAM, TOP, Tally, parser, run_script, timed, written
+from tally import DEMO, TOP, Tally, run_script, timed, written
 import board
 import splice
 from acpidis_tools.asl.blocks import Block, Reader
 from acpidis_tools.asl.names import said_by
 from acpidis_tools.listing import NoListing
+from asking import PROGRAM, asked
 from dumps import dumps_of
 from folders import read_folder
 from hostile import mutated
@@ -108,7 +107,7 @@ def check_sets(checks, count, folders):
     jobs = [(name, dumps_of(files), Options(any_run=True)) for name, files in SAMPLES.items()]
     jobs += [("demo", read_folder(DEMO), Options())]
     jobs += [(f"plain{seed}", dumps_of(plain_set(seed)), Options()) for seed in range(count)]
-    for folder in map(pathlib.Path, folders):
+    for folder in folders:
         jobs.append((f"of_{folder.name}", read_folder(folder), Options(any_run=True, any_sum=True)))
     with concurrent.futures.ThreadPoolExecutor(os.cpu_count()) as pool:
         list(pool.map(lambda job: check_set(checks, *job), jobs))
@@ -543,17 +542,13 @@ CHECKS = (
 
 
 def main():
-    words = parser(__doc__)
-    words.add_argument("--sets", metavar="N", type=int, default=200)
-    words.add_argument("--stop", action="store_true")
-    words.add_argument("folders", metavar="FOLDER", nargs="*")
-    asked = words.parse_args()
+    words = asked(__doc__, sets=200, stop=False, folders=())
     if not IASL:
         print("iasl isn't there (acpica-tools): nothing is compiled")
-    with Checks(asked.stop) as checks:
+    with Checks(words.stop) as checks:
         for check in CHECKS:
             check(checks)
-        check_sets(checks, asked.sets, asked.folders)
+        check_sets(checks, words.sets, words.folders)
         if IASL:
             for version, files in board.VERSIONS.items():
                 added(checks, version, dumps_of(files), ["--any-run"])

@@ -9,12 +9,12 @@ PROGRAM is out/acpidis if left out. It needs a C compiler, for refusals.c. The l
 
 import os
 import subprocess
-import sys
 
-from tally import DEMO, PROGRAM, Tally, shim_in  # before the others, whose places it tells
+from tally import DEMO, Tally, shim_in, written
+from asking import PROGRAM, asked
 import hostile_shapes as shapes
 import measuring
-import sets
+from made_aml import tables
 
 METHODS = 20_000
 # A write takes 64 KB, and less only where a body's text doesn't fit any more.
@@ -78,24 +78,22 @@ def bounded(program, shape, folder):
 
 def measure(program, room):
     """What was counted, each with its bound."""
-    shim, folder = shim_in(room), room / "set"
-    folder.mkdir()
-    (folder / "dsdt.dat").write_bytes(sets.many_methods(METHODS))
-    length, writes, freed = count_calls(program, shim, folder)
+    folder = written(room / "set", tables(shapes.many_methods(METHODS)))
+    length, writes, freed = count_calls(program, shim_in(room), folder)
     assert length > 100 * METHODS, length
     faults = usage_of(program, DEMO).ru_minflt - usage_of(program, "--version").ru_minflt
     yield f"writes of {length} bytes", writes, length // LEAST_WRITE
     yield "blocks let go behind the last write", freed, MOST_FREED
     yield "page faults of a small set", faults, MOST_FAULTS
     for name, (make, most) in SHAPES.items():
-        answer = costs_of(program, room / name, lambda: shapes.one(lambda _: make())(0))
+        answer = costs_of(program, room / name, lambda: tables(make()))
         yield f"seconds: {name}", round(answer.processor, 2), most
     for shape in (it for it in shapes.SHAPES if it.name in BOUNDED):
         yield from bounded(program, shape, room / shape.name)
 
 
 def main():
-    program = os.path.abspath(sys.argv[1] if len(sys.argv) > 1 else PROGRAM)
+    program = asked(__doc__, program=PROGRAM).program
     with Tally() as checks:
         for name, count, most in measure(program, checks.room):
             print(f"{name}: {count}, at most {most}")

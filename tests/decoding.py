@@ -14,10 +14,10 @@ import difflib
 import pathlib
 import re
 import shutil
-import sys
 import tempfile
 
-from tally import DEMO, TOP, Tally, written  # before the others, whose places it tells
+from tally import DEMO, TOP, Tally, written
+from asking import asked
 from acpidis_tools.decoding import Decoder, bits_text, flag_words
 from dumps import order_of
 from folders import read_folder
@@ -215,6 +215,7 @@ def made_set(room: pathlib.Path) -> pathlib.Path:
 
 
 def main() -> None:
+    folders = asked(__doc__, folders=()).folders
     with Tally() as checks:
         check_rows(checks)
         check_words(checks)
@@ -222,7 +223,7 @@ def main() -> None:
         check_notes(checks, made)
         check_objects(checks, checks.room)
         if shutil.which("iasl"):
-            for folder in (DEMO, made, *map(pathlib.Path, sys.argv[1:])):
+            for folder in (DEMO, made, *folders):
                 compare(checks, folder.name, folder)
         else:
             print("iasl is not there, so nothing is compared with it: on Debian, apt-get install acpica-tools")

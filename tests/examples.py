@@ -11,10 +11,9 @@ import itertools
 import os
 import re
 import subprocess
-import sys
 
-# Before the others, whose places it tells
 from tally import TOP, Tally, on_full_disk, run_script, timed, written
+from asking import asked
 from made_aml import device, packed as block, scope, table, tables
 
 
@@ -272,7 +271,7 @@ def try_hostile(tries):
 
 
 def main():
-    with Tries("--stop" in sys.argv[1:]) as tries:
+    with Tries(asked(__doc__, stop=False).stop) as tries:
         try_rows(tries)
         try_many_missing(tries)
         try_refused(tries)

@@ -20,9 +20,9 @@ import sqlite3
 import subprocess
 import sys
 
-# Before the others, whose places it tells
-from tally import TOP, Tally, first_difference, module_of, on_full_disk, parser, run_script, written
+from tally import TOP, Tally, first_difference, module_of, on_full_disk, run_script, written
 from acpidis_tools import command
+from asking import asked
 from board import VERSIONS
 from loading import path_text
 from made_aml import buffer, device, region, table, tables
@@ -270,11 +270,9 @@ def check_words(checks: Tally, room: pathlib.Path) -> None:
 
 
 def main() -> None:
-    words = parser(__doc__, folders=True)
-    words.add_argument("--sets", type=int, default=40)
-    asked = words.parse_args()
+    words = asked(__doc__, sets=40, folders=())
     with Tally() as checks:
-        for sample in samples(checks.room, asked.folders, asked.sets):
+        for sample in samples(checks.room, words.folders, words.sets):
             check_set(checks, *sample)
         room = checks.room / "many"
         room.mkdir()

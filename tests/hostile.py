@@ -16,11 +16,11 @@ import re
 import resource
 import subprocess
 
-# Before the others, whose places it tells
-from tally import TOP, Tally, module_of, on_full_disk, parser, run_script, timed, written
+from tally import TOP, Tally, module_of, on_full_disk, run_script, timed, written
 from acpidis_tools.errors import read_errors
 from acpidis_tools.listing import NoListing
 from acpidis_tools.page.markup import page
+from asking import asked
 from running import Options, run_folder
 from acpidis_tools.page.sheet import Sheet
 from telling import HOSTILE_FILES, RUNS_FILES
@@ -198,13 +198,11 @@ def check_mutations(checks: Tally, room: pathlib.Path, count: int) -> None:
 
 
 def main() -> None:
-    words = parser(__doc__)
-    words.add_argument("--mutations", type=int, default=200)
-    asked = words.parse_args()
+    count = asked(__doc__, mutations=200).mutations
     with Tally() as checks:
         check_texts(checks, checks.room)
         check_outputs(checks, checks.room)
-        check_mutations(checks, checks.room, asked.mutations)
+        check_mutations(checks, checks.room, count)
 
 
 if __name__ == "__main__":

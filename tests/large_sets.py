@@ -16,11 +16,11 @@ import itertools
 import os
 import pathlib
 import string
-import sys
 import tempfile
 from typing import NamedTuple
 
-from tally import PROGRAM, Tally, parser, written  # before the others, whose places it tells
+from tally import Tally, written
+from asking import PROGRAM, asked
 from compare import first_difference, run_program
 from dumps import HEADER_LENGTH, MOST_BYTES, MOST_DUMPS, dumps_of
 from loading import MOST_METHODS
@@ -327,17 +327,11 @@ def check_cuts(checks, program):
 
 
 def main():
-    words = parser(__doc__)
-    words.add_argument("--stop", action="store_true")
-    words.add_argument("program", nargs="?", type=pathlib.Path, default=PROGRAM)
-    asked = words.parse_args()
-    program = asked.program.resolve()
-    if not program.exists():
-        sys.exit("the program isn't built: ./acpidis demo builds it")
-    with Tally(asked.stop) as checks:
-        check_cuts(checks, program)
+    words = asked(__doc__, stop=False, program=PROGRAM)
+    with Tally(words.stop) as checks:
+        check_cuts(checks, words.program)
         for trial in itertools.chain.from_iterable(make() for make in LARGE):
-            check(checks, trial, difference_of(program, trial)[0])
+            check(checks, trial, difference_of(words.program, trial)[0])
 
 
 if __name__ == "__main__":

@@ -25,7 +25,8 @@ import sys
 import tempfile
 import time
 
-from tally import DEMO, PROGRAM, TOP, Tally, parser, timed, written  # before the others, whose places it tells
+from tally import DEMO, TOP, Tally, timed, written
+from asking import PROGRAM, asked
 from compare import write_trial
 from made_aml import tables
 from made_sets import SetMaker
@@ -234,30 +235,23 @@ def show_cost(room, lib, program, folders):
 
 
 def main():
-    words = parser(__doc__)
-    words.add_argument("--sets", type=int, default=150, help="so many made-up sets of each kind")
-    words.add_argument("--cost", action="store_true", help="only say what calls take")
-    words.add_argument("program", nargs="?", type=pathlib.Path, default=PROGRAM)
-    words.add_argument("folders", nargs="*", type=pathlib.Path)
-    asked = words.parse_args()
-    program = asked.program.resolve()
-    if not program.exists():
-        sys.exit("the program isn't built: ./acpidis demo builds it")
+    words = asked(__doc__, sets=150, cost=False, program=PROGRAM, folders=())
+    program = words.program
     with Tally() as checks:
         room = checks.room
         lib = link(room)
         os.environ["ACPIDIS_LIBRARY"] = str(lib / "libacpidis.so.0")
         # Those that are given, or the folders directly in them
-        given = [sorted(it for it in folder.iterdir() if it.is_dir()) or [folder] for folder in asked.folders]
+        given = [sorted(it for it in folder.iterdir() if it.is_dir()) or [folder] for folder in words.folders]
         folders = [DEMO, *itertools.chain.from_iterable(given)]
-        if asked.cost:
+        if words.cost:
             show_cost(room, lib, program, folders)
             sys.exit()
         acpidis = importlib.import_module("acpidis")
         try_edge(checks, room, lib, program)
         try_example(checks, room, lib, program, folders)
         try_page(checks, acpidis, room)
-        try_python(checks, acpidis, program, folders, asked.sets)
+        try_python(checks, acpidis, program, folders, words.sets)
 
 
 if __name__ == "__main__":

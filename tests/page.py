@@ -10,19 +10,19 @@ the listing, and each declaration lists the lines that use it. Then come hostile
 no listing. The last line is 'N passed, N failed'.
 """
 
-import argparse
 import pathlib
 import random
 import re
 import subprocess
 from collections import Counter
 
-from tally import Tally, first_difference, parser, run_script, written  # before the others, whose places it tells
+from tally import Tally, first_difference, run_script, written
 from acpidis_tools.page import lines as lines_module
 import pages
 from acpidis_tools.page import tree as tree_module
 from acpidis_tools.comparison import differences
 from acpidis_tools.errors import read_errors
+from asking import asked
 from made_aml import method, table
 from acpidis_tools.page.markup import page
 from page_html import Read, read_page
@@ -242,8 +242,8 @@ def check_refusals(checks: Checks, outcome: Outcome) -> None:
         checks.is_same("status of other faults", (run.returncode, run.stderr.count("\n")), (1, 1))
 
 
-def check_all(checks: Checks, asked: argparse.Namespace) -> None:
-    for what, *sample in samples(checks.room, asked.folders, asked.sets):
+def check_all(checks: Checks, folders: list, sets: int) -> None:
+    for what, *sample in samples(checks.room, folders, sets):
         read = checks.check_set(what, *sample)
         for name, check in (("the hostile set", check_hostile), ("the set of runs", check_runs)):
             if what == name:
@@ -258,11 +258,9 @@ def check_all(checks: Checks, asked: argparse.Namespace) -> None:
 
 
 def main() -> None:
-    words = parser(__doc__, folders=True)
-    words.add_argument("--sets", type=int, default=40)
-    asked = words.parse_args()
+    words = asked(__doc__, sets=40, folders=())
     with Checks() as checks:
-        check_all(checks, asked)
+        check_all(checks, words.folders, words.sets)
 
 
 if __name__ == "__main__":

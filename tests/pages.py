@@ -23,7 +23,7 @@ import subprocess
 import sys
 import tempfile
 
-from tally import TOP, Tally, written  # before the others, whose places it tells
+from tally import TOP, Tally, written
 from board import VERSIONS
 from made_aml import tables
 

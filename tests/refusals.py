@@ -18,8 +18,8 @@ import re
 import sys
 import tempfile
 
-# Before the others, whose places it tells
-from tally import PROGRAM, TOP, Tally, parser, shim_in, written
+from tally import TOP, Tally, shim_in, written
+from asking import PROGRAM
 from limits import WANTS, ended
 from made_aml import method, packed, tables
 from running import DONE, RAW
@@ -81,9 +81,9 @@ def built(*words, **more):
 
 
 def main():
-    words = parser(__doc__)
-    words.add_argument("part", nargs="?", choices=["program"])
-    part = words.parse_args().part
+    part = sys.argv[1:] == ["program"]
+    if sys.argv[1:] and not part:
+        sys.exit(__doc__)
     with Tally(stops=True) as checks, concurrent.futures.ThreadPoolExecutor(len(os.sched_getaffinity(0))) as pool:
         shim = shim_in(checks.room)
         if not shim:

@@ -1,8 +1,8 @@
-"""What the tests beside this file share: where what they try lies, their words, and counts of what passes and what fails."""
+"""What the tests beside this file share: where what they try lies, and counts of what passes and what fails. It tells the others' places,
+so it comes before them."""
 
 from __future__ import annotations
 
-import argparse
 import importlib.machinery
 import importlib.util
 import itertools
@@ -18,8 +18,8 @@ from collections.abc import Callable, Iterable
 
 sys.dont_write_bytecode = True
 TOP = pathlib.Path(__file__).resolve().parent.parent
-PROGRAM, DEMO = TOP / "out/acpidis", TOP / "crates/acpidis_program/data/demo"
-sys.path[1:1] = [str(TOP / "tests/oracle"), str(TOP / "tests"), str(TOP / "examples"), str(TOP / "bench")]
+DEMO = TOP / "crates/acpidis_program/data/demo"
+sys.path[1:1] = [str(TOP / place) for place in ("tests/oracle", "tests", "examples", "bench")]
 
 
 class Stopped(Exception):
@@ -110,11 +110,3 @@ def shim_in(room: pathlib.Path) -> pathlib.Path | None:
     shim = room / "refusals.so"
     words = [compiler, "-O1", "-shared", "-fPIC", "-o", shim, TOP / "tests/refusals.c", "-ldl"]
     return shim if compiler and subprocess.run(words, check=True) else None
-
-
-def parser(about: str | None, folders: bool = False) -> argparse.ArgumentParser:
-    """The words of a test, whose help is what its first lines say; folders of dumps of one's own may be among them."""
-    words = argparse.ArgumentParser(description=about, formatter_class=argparse.RawDescriptionHelpFormatter)
-    if folders:
-        words.add_argument("folders", metavar="FOLDER", nargs="*", type=pathlib.Path)
-    return words

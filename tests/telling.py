@@ -5,7 +5,7 @@ import random
 import tempfile
 from collections.abc import Iterator
 
-from tally import DEMO, written  # before the others, whose places it tells
+from tally import DEMO, written
 import pages
 from any_run import RunNamespace, RunReader
 from dumps import aml_of, order_of

@@ -9,7 +9,7 @@ import pathlib
 import os
 import re
 
-from tally import TOP, Tally, module_of  # before the others, whose places it tells
+from tally import TOP, Tally, module_of
 
 TESTS = TOP / "tests"
 # What tests/verdicts.txt has: the function, the verdict, words of its reason, and what was printed; then files

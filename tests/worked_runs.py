@@ -14,7 +14,8 @@ import itertools
 import pathlib
 import tempfile
 
-from tally import PROGRAM, TOP, Tally, first_difference, parser  # before the others, whose places it tells
+from tally import TOP, Tally, first_difference
+from asking import PROGRAM, asked
 from cases import Rows, options_of
 from compare import run_program
 from folders import MAP_NAME
@@ -63,14 +64,11 @@ def examples(file):
 
 
 def main():
-    words = parser(__doc__)
-    words.add_argument("program", nargs="?", default=PROGRAM)
-    words.add_argument("--read", action="store_true", help="try the independent reading alone")
-    asked, checks = words.parse_args(), Tally()
+    words, checks = asked(__doc__, read=False, program=PROGRAM), Tally()
     for file in RUNS:
         rows = examples(file)
         checks.is_so(f"{file} has no examples", any(wanted for *_, wanted in rows))
-        readers = {"tests/oracle": Rows()} | ({} if asked.read else {"acpidis": ProgramRows(asked.program)})
+        readers = {"tests/oracle": Rows()} | ({} if words.read else {"acpidis": ProgramRows(words.program)})
         for (number, row, wanted), (name, reader) in itertools.product(rows, readers.items()):
             got = reader.answer(row)
             if wanted or got:

@@ -14,7 +14,6 @@ more. With --workers each is run by each of these numbers of workers. With --rea
 said how the sets end. The same seed makes the same sets.
 """
 
-import argparse
 import collections
 import dataclasses
 import itertools
@@ -32,6 +31,7 @@ import time
 
 sys.dont_write_bytecode = True
 
+from asking import asked, built  # noqa: E402
 from folders import file_names  # noqa: E402
 from made_sets import SetMaker, Trial  # noqa: E402
 from running import DONE, RAW, REFUSED, Options, Outcome, run_folder  # noqa: E402
@@ -39,7 +39,6 @@ from set_mutating import SetMutator  # noqa: E402
 
 FOLDER, EXTERNALS = "set", "externals.txt"
 MARK = re.compile(r"(?<= )(Maybe|Times)(?= [0-9]+$|$| Times [0-9]+$)", re.MULTILINE)
-PROGRAM = pathlib.Path(__file__).resolve().parents[2] / "out/acpidis"
 LONGEST_RUN, MOST_SECONDS = 60, 10
 MOST_MEMORY, MEMORY_STOP = 2 << 30, 6 << 30
 MOST_DIFFERENCES, MOST_CHANGES = 5, 4
@@ -174,42 +173,27 @@ def write_trial(room, trial):
     return folder, dataclasses.replace(trial.options, externals=str(room / EXTERNALS))
 
 
-def arguments():
-    words = argparse.ArgumentParser(description=__doc__, formatter_class=argparse.RawDescriptionHelpFormatter)
-    words.add_argument("folders", nargs="*", type=pathlib.Path)
-    words.add_argument("--seconds", type=float, default=60)
-    words.add_argument("--sets", type=int, help="compare so many made-up sets, however long it takes")
-    words.add_argument("--seed", type=int, default=0)
-    words.add_argument("--with-externals", action="store_true", help="make up files for the option --externals too")
-    words.add_argument("--any-run", action="store_true", help="make up code outside methods, for this option")
-    words.add_argument("--deep", action="store_true", help="scopes of 100 to 2,000 segments for a third of the sets")
-    words.add_argument("--mutated", action="store_true", help="change each set once more")
-    words.add_argument("--read", action="store_true", help="run no program")
-    words.add_argument("--workers", type=lambda text: [int(it) for it in text.split(",")], help="run each set by these")
-    words.add_argument("--program", type=pathlib.Path, default=PROGRAM, help="another program than out/acpidis")
-    asked = words.parse_args()
-    if not asked.read and not asked.program.exists():
-        sys.exit("the program isn't built: ./acpidis demo builds it")
-    return asked
-
-
 def main():
-    asked = arguments()
-    comparison = Comparison(None if asked.read else asked.program.resolve(), asked.workers)
-    for folder in asked.folders:
-        comparison.compare(folder, Options(any_run=asked.any_run))
-        comparison.compare(folder, Options(any_run=asked.any_run, check=True))
-    known = [{name: (folder / name).read_bytes() for name in file_names(folder)} for folder in asked.folders]
-    maker = SetMaker(random.Random(asked.seed), known, asked.with_externals, asked.any_run, asked.deep)
-    maker = MutatedMaker(maker) if asked.mutated else maker
-    number, until = 0, time.monotonic() + asked.seconds
-    while number < asked.sets if asked.sets is not None else time.monotonic() < until:
+    words = asked(
+        __doc__, seconds=60.0, sets=int, seed=0, with_externals=False, any_run=False, deep=False, mutated=False, read=False,
+        workers="", folders=(),
+    )  # fmt: skip
+    workers = [int(it) for it in words.workers.split(",")] if words.workers else None
+    comparison = Comparison(None if words.read else built(), workers)
+    for folder in words.folders:
+        comparison.compare(folder, Options(any_run=words.any_run))
+        comparison.compare(folder, Options(any_run=words.any_run, check=True))
+    known = [{name: (folder / name).read_bytes() for name in file_names(folder)} for folder in words.folders]
+    maker = SetMaker(random.Random(words.seed), known, words.with_externals, words.any_run, words.deep)
+    maker = MutatedMaker(maker) if words.mutated else maker
+    number, until = 0, time.monotonic() + words.seconds
+    while number < words.sets if words.sets is not None else time.monotonic() < until:
         if comparison.differences >= MOST_DIFFERENCES:
             break
         trial, number = maker.trial(), number + 1
         with tempfile.TemporaryDirectory() as room:
             comparison.compare(*write_trial(pathlib.Path(room), trial))
-    print(f"seed {asked.seed}")
+    print(f"seed {words.seed}")
     comparison.report()
     sys.exit(comparison.differences > 0)
 

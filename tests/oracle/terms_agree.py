@@ -1,7 +1,7 @@
 #!/usr/bin/env python3
 """Runs made-up tables in every way, and compares what stands then with what acpidis --any-run tells of them.
 
-    python3 tests/oracle/terms_agree.py [--counts N] [--seed N] [--read] [--program PROGRAM]
+    python3 tests/oracle/terms_agree.py [--counts N] [--seed N] [--read]
 
 All runs of a few terms are made here, as an interpreter would run them: a declaration is passed over, with all that
 stands inside, where its path is there already, or the path above it isn't; an Alias too where its source isn't; a
@@ -15,7 +15,6 @@ the independent reading is tried in place of the program. What is counted are th
 line is 'N passed, N failed'.
 """
 
-import argparse
 import itertools
 import pathlib
 import random
@@ -26,7 +25,8 @@ from typing import NamedTuple
 
 sys.dont_write_bytecode = True
 
-from compare import PROGRAM, run_program, write_trial  # noqa: E402
+from asking import asked, built  # noqa: E402
+from compare import run_program, write_trial  # noqa: E402
 from loading import PREDEFINED, path_text  # noqa: E402
 from made_code import package_length, shortest  # noqa: E402
 from made_sets import Trial, table  # noqa: E402
@@ -263,17 +263,10 @@ class Comparison:
 
 
 def main():
-    words = argparse.ArgumentParser(description=__doc__, formatter_class=argparse.RawDescriptionHelpFormatter)
-    words.add_argument("--counts", type=int, default=20_000)
-    words.add_argument("--seed", type=int, default=0)
-    words.add_argument("--read", action="store_true", help="try the independent reading")
-    words.add_argument("--program", type=pathlib.Path, default=PROGRAM, help="another program than out/acpidis")
-    asked = words.parse_args()
-    if not asked.read and not asked.program.exists():
-        sys.exit("the program isn't built: ./acpidis demo builds it")
-    comparison = Comparison(None if asked.read else asked.program.resolve())
-    maker = TermMaker(random.Random(asked.seed))
-    while comparison.passed + comparison.failed < asked.counts and comparison.wrong < MOST_WRONG:
+    words = asked(__doc__, counts=20_000, seed=0, read=False)
+    comparison = Comparison(None if words.read else built())
+    maker = TermMaker(random.Random(words.seed))
+    while comparison.passed + comparison.failed < words.counts and comparison.wrong < MOST_WRONG:
         if comparison.silent >= MOST_SILENT:
             break
         comparison.compare(maker)
