@@ -28,7 +28,7 @@ from asking import PROGRAM, asked
 from dumps import dumps_of
 from folders import read_folder
 from hostile import mutated
-from made_aml import device, method, scope, table, tables
+from made_aml import SETS, device, method, scope, table, tables
 from made_plain import PlainMaker
 from made_sets import sealed
 from printing import file_text
@@ -277,14 +277,6 @@ def check_edit(checks):
             source.write_text(re.sub(r"(Method \([A-Z_]*, 1, .*\n)", rf"\g<1>{statement}\n", text), "ascii")
             source.with_suffix(".aml").unlink(missing_ok=True)
             checks.is_same(f"{source.name} with {statement}", compiled(source) is not None, holds)
-
-
-# A method that only Externals name, called where it is found by a search and by its path; one without arguments; a unit.
-EXTERNALS = (
-    b"\x15\\\x2E_SB_MPTS\x08\x01" + b"\x15\\\x2E_SB_MINI\x08\x00" + b"\x15\\UNIT\x05\x00"
-    + scope(b"\\_SB_", device(b"DEV0", method(b"CALL", 0, b"\x5B\x12MPTS\0MPTS\x01\x70\x01UNIT")))
-    + method(b"MAIN", 0, b"\\\x2E_SB_MPTS\x01" + b"\\\x2E_SB_MINI" + b"\xA4UNIT")
-)
 
 
 def listed(folder, options=()):
@@ -553,7 +545,7 @@ def main():
             for version, files in board.VERSIONS.items():
                 added(checks, version, dumps_of(files), ["--any-run"])
             added(checks, "of the demo", read_folder(DEMO), [])
-            added(checks, "of Externals", dumps_of(tables(EXTERNALS)), [])
+            added(checks, "of Externals", dumps_of(tables(*SETS["externals"])), [])
             check_edit(checks)
 
 

@@ -14,61 +14,9 @@ import subprocess
 
 from tally import TOP, Tally, on_full_disk, run_script, timed, written
 from asking import asked
-from made_aml import device, packed as block, scope, table, tables
+from made_aml import SETS, device, method, table, tables
 
 
-def method(name, body, flags=0):
-    return block(b"\x14", name + bytes([flags]) + body)
-
-
-SUN = b"\x08_SUN\x01"
-EJECT = b"\\\x2f\x03_SB_PHPRPCEJ_SUN\x0a\x07"
-EJECTS = scope(b"\\_SB_", *(device(b"S00%d" % n, SUN, method(b"_EJ0", EJECT, 1)) for n in range(3)))
-SIZE = b"\x94\x87FOO_\x0a\x05\x0a\x04"  # LGreater (SizeOf (FOO_ (0x05)), 0x04)
-BRANCH = b"\x08CCCC\0" + device(b"DEV0", SUN, block(b"\xa0", b"\x93CCCC\x01" + method(b"FOO_", b"", 1)))
-REGION = b"\x5b\x80REG0\0"
-# The sets that tests/examples.txt names: the AML of the DSDT, and of SSDTs
-SETS = {
-    "ejects": [EJECTS],
-    # DVNT (\_SB_.PCIU, One) DVNT (\_SB_.PCID, 0x03) Reset (EVNT)
-    "rounds": [
-        method(b"DVNT", b"", 2)
-        + b"\x5b\x02EVNT"
-        + method(b"PCNT", b"DVNT\\\x2e_SB_PCIU\x01DVNT\\\x2e_SB_PCID\x0a\x03\x5b\x26EVNT")
-    ],
-    "places": [
-        device(b"DEV0", method(b"AAAA", b"\xa4ZZZZ\x01"), method(b"BBBB", b"\xa4^YYYY"), method(b"CCCC", b"\xa4^^^XXXX"))
-    ],
-    "outside": [b"\x08VALU\x11\x07VVVV\0\0" + method(b"MAIN", b"\xa4VVVV")],
-    "targets": [
-        method(b"FOO_", b"\xa4\x68", 1)
-        + b"\x08BAR_\x01"
-        + method(b"MAIN", block(b"\xa0", SIZE) + b"\x86FOO_\x01\x0a\x80\x5b\x23FOO_\x62\xff\xff")
-        + method(b"GOOD", b"\x70FOO_BAR_BAR_\x71BAR_\x08FOO_\x01\x75FOO_")
-        + b"\x06FOO_ALIA"
-        + method(b"LAST", b"\x72\x01\x01ALIA")
-        + b"\x15EXTM\x08\x02"
-        + method(b"MORE", b"\x87EXTM")
-        + method(b"REFS", b"\x5b\x12FOO_\x60\xa3\x70\x71FOO_\x60" + block(b"\xa0", b"\x8eFOO_\xa3") + b"\x8eFOO_\x0a\x07")
-    ],
-    "branch": [BRANCH],
-    # A call in front of its method, with a body that waits too
-    "ahead": [method(b"MAIN", b"QQQQ\x01") + b"PCRB\x0a\xad" + method(b"PCRB", b"", 1)],
-    "predicate": [block(b"\xa0", b"ZZZZ\x08WIN_\0")],
-    "differs": [
-        method(b"FOO_", b"", 1)
-        + device(
-            b"DEV0", block(b"\xa0", b"\x01" + method(b"FOO_", b"", 2)), method(b"BAR_", b"FOO_\x01"), method(b"SIZE", b"\x87FOO_")
-        )
-    ],
-    "second": [block(b"\xa0", b"\x01\x08FOO_\0") + method(b"FOO_", b"", 3) + block(b"\xa0", b"\x87FOO_\xa3")],
-    "promised": [b"\x15PCRB\x08\x02PCRB\x01\x01" + method(b"PCRB", b"", 1)],
-    "shifted": [method(b"FOO_", b"", 1) + REGION + b"FOO_\x01\x04"],
-    "twice": [SUN, SUN],
-    "wants": [SUN, scope(b"\\RP99", method(b"HOTP", b"", 2)), device(b"RP99")],
-    "argument": [REGION + b"FOO_\x01" + method(b"FOO_", b"", 1)],
-    "returns": [b"\xa4\0"],
-}
 GIVEN = "\\PCIU 0\n\\_SB_.PCIU 0\n\\_SB_.PCID 0\n"
 BAD_NAME = "a\" {\n      Raw {5A}\n$(touch bad)`touch bad`.dat"
 # The line of a table, without which nothing is a listing
@@ -128,7 +76,7 @@ def try_many_missing(tries):
     """Names in bodies of their own are tried together, so that many of them take as many runs as one; names in one body
     aren't, and end with a word."""
     names = [b"X%03d" % number for number in range(300)]
-    many = b"".join(method(b"M" + name[1:], b"\xa4" + name) for name in names)
+    many = b"".join(method(b"M" + name[1:], 0, b"\xa4" + name) for name in names)
     launched = subprocess.run([TOP / "acpidis", "--program"], capture_output=True, text=True, check=False)
     program, calls = os.environ.get("ACPIDIS") or launched.stdout.rstrip("\n"), tries.room / "calls"
     counting = tries.fake("counting", f"echo run >>'{calls}'\nexec '{program}' \"$@\"\n")
@@ -136,7 +84,7 @@ def try_many_missing(tries):
     wanted = "".join(f"\\{name.decode()} 0\n" for name in names)
     tries.row("300 names", found, 0, wanted, "# \\X299: 1 body waits, the first \\M299 at 1")
     tries.is_so("few runs", len(calls.read_text().splitlines()) < 30)
-    pair = method(b"MAIN", b"\x72AAAA\\BBBB\1\x60") + method(b"NEXT", b"\x70BBBB\x0a\1\x5b\x31")
+    pair = method(b"MAIN", 0, b"\x72AAAA\\BBBB\1\x60") + method(b"NEXT", 0, b"\x70BBBB\x0a\1\x5b\x31")
     found = tries.run("missing.py", tries.folder("pair", pair))
     tries.row("two names of one body", found, 0, "\\AAAA ?\n\\BBBB ?\n", "#   with 0: 1 reads")
 
@@ -188,7 +136,7 @@ echo }}
 
 def try_damage(tries):
     """No table is so damaged that there is no answer."""
-    found = tries.run("refused.py", tries.folder("odd", BRANCH, BAD_NAME))
+    found = tries.run("refused.py", tries.folder("odd", *SETS["branch"], BAD_NAME))
     place = 'a" {\\x0A      Raw {5A}\\x0A$(touch bad)`touch bad`.dat, offset 20, byte 56 of the file, in the scope \\DEV0'
     tries.is_so("a file's name", found.returncode == 1 and place in found.stdout.splitlines())
     (tries.room / "twice/notes.txt").write_text("no table")
@@ -200,8 +148,8 @@ def try_damage(tries):
     (tries.room / "twice/notes.txt").unlink()
     said = "refused: cannot write: No space left on device\n"
     tries.is_same("a full disk", on_full_disk("refused.py", "twice", cwd=tries.room), (2, said))
-    tries.folder("damaged", BRANCH)
-    data, file = table(b"DSDT", BRANCH + REGION), tries.room / "damaged/dsdt.dat"
+    tries.folder("damaged", *SETS["branch"])
+    data, file = table(b"DSDT", SETS["branch"][0] + b"\x5b\x80REG0\0"), tries.room / "damaged/dsdt.dat"
     for at, byte in itertools.product(range(36, 86, 7), (0x00, 0x5B, 0xFF)):
         file.write_bytes(data[:at] + bytes([byte]) + data[at + 1 :])
         found = tries.run("refused.py", "--any-sum", "damaged")
@@ -222,7 +170,7 @@ def try_deep(tries):
     longs = b"".join(b"\x08" + deep[:-4] + b"X%03d\0" % number for number in range(60))
     tries.folder("nested", nested(480) * 2)
     tries.folder("long", longs + b"\x08" + deep[:-4] + b"X000\0")
-    tries.folder("below", block(b"\x14", deep + b"\0" + b"\x70XXXX\x60" * 300))
+    tries.folder("below", method(deep, 0, b"\x70XXXX\x60" * 300))
     for folder in ("nested", "long", "below"):
         for command in ("refused.py", "refused.py --any-run", "calls.py --any-run", "missing.py --any-run"):
             script, *words = command.split()
@@ -235,8 +183,8 @@ def try_deep(tries):
 
 
 def try_hostile(tries):
-    named = tries.folder("named", EJECTS, BAD_NAME)
-    text = tries.folder("text", b'\x08TEXT\x0d"\n      Raw {5A}\nMethod (AAAA, 7, \0' + EJECTS)
+    named = tries.folder("named", *SETS["ejects"], BAD_NAME)
+    text = tries.folder("text", b'\x08TEXT\x0d"\n      Raw {5A}\nMethod (AAAA, 7, \0' + SETS["ejects"][0])
     words = "$(touch bad)"
     os.rename(tries.room / named, tries.room / words)
     for script, status, out in [("missing.py", 0, "\\_SB_.PHPR.PCEJ 2\n"), ("calls.py", 0, "")]:

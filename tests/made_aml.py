@@ -1,9 +1,12 @@
 """Pieces of AML, and whole tables, of which the tests beside this file and the benches make their sets."""
 
 import random
+import re
 
+from asking import TOP
 from made_code import package_length
 from made_sets import sealed
+from reading import ROWS
 
 LETTERS, DIGITS = "ABCDEFGHIJKLMNOPQRSTUVWXYZ", "0123456789ABCDEFGHIJKLMNOPQRSTUVWXYZ_"
 
@@ -64,3 +67,26 @@ def each(numbers, make=lambda name: name):
 
 def mixed(count):
     return random.Random(1).sample(range(count), count)
+
+
+def bytes_of(text):
+    """Two hexadecimal digits a byte, words of opcodes, texts in single quotes, and in brackets what has a package length in
+    front."""
+    opcodes = {row.mnemonic: f"{opcode:0{2 if opcode < 256 else 4}X}" for opcode, row in ROWS.items()}
+    opened = [b""]
+    for word, plain, bracket in re.findall(r"(\w+)|'([^']*)'|(\]|\[)", text):
+        if bracket == "[":
+            opened.append(b"")
+        elif bracket:
+            content = opened.pop()
+            opened[-1] = packed(opened[-1], content)
+        else:
+            opened[-1] += bytes.fromhex(opcodes.get(word, word)) or plain.encode()
+    return opened[0]
+
+
+# The AML of each table of the sets of tests/sets.txt
+SETS = {
+    name: list(map(bytes_of, re.findall(r"^[DS]SDT: ((?:.*\n)(?:  .*\n)*)", part, re.M)))
+    for name, part in re.findall(r"^== (.*)\n((?:(?!==).*\n)*)", (TOP / "tests/sets.txt").read_text(), re.M)
+}

@@ -18,12 +18,11 @@ from collections import Counter
 
 from tally import Tally, first_difference, run_script, written
 from acpidis_tools.page import lines as lines_module
-import pages
 from acpidis_tools.page import tree as tree_module
 from acpidis_tools.comparison import differences
 from acpidis_tools.errors import read_errors
 from asking import asked
-from made_aml import method, table
+from made_aml import SETS, method, table
 from acpidis_tools.page.markup import page
 from page_html import Read, read_page
 from running import REFUSED, Options, Outcome, run_folder
@@ -138,7 +137,7 @@ def check_runs(checks: Checks, read: Read) -> None:
 
 def check_comparison(checks: Checks) -> None:
     """A set beside one whose DSDT adds a name, lacks a method and changes a name, and beside itself."""
-    code = pages.DSDT.replace(b"BAR_\x0A\x05", b"BAR_\x0A\x06")
+    code = SETS["mine"][0].replace(b"BAR_\x0A\x05", b"BAR_\x0A\x06")
     code = code.replace(b"\x14\x0BCALL\x00\xA4ZZZZ", b"\x08NEW_\x0D<b>\x00")
     other = {**PAGES_FILES, "dsdt.dat": table(b"DSDT", code)}
     sets = {"one": PAGES_FILES, "two": other}

@@ -25,7 +25,7 @@ import tempfile
 
 from tally import TOP, Tally, written
 from board import VERSIONS
-from made_aml import tables
+from made_aml import SETS, tables
 
 LISTING = "docs/listing.md"
 PAGES = ["listing", "tables", "refusals", "any_run", "changing", "many", "facts"]
@@ -38,10 +38,7 @@ MOST_PAGES, MOST_WORDS_OF_PAGES = 15, 24000
 # What pages call a thing that no source names
 MADE_UP = {"draw_copy1", "Lts"}
 SCRIPTS = ["tests/meaning.py", "tests/survey.sh", "tests/install.sh", "tests/examples.py", "tests/library.sh"]
-DSDT = b"\x08BAR_\x0A\x05" + b"\x14\x0BFOO_\x02\xA4\x72\x68\x69\x00" + b"\x14\x0BCALL\x00\xA4ZZZZ"
-SSDT = b"\x10\x17\\_SB_\x5B\x82\x0FDEV0\x14\x09_STA\x08\xA4\x0A\x0F" + b"\x06FOO_ALIA"
-SETS = {"mine": tables(DSDT, SSDT)}
-SETS |= {f"boards/{version}": files for version, files in VERSIONS.items()}
+FOLDERS = {"mine": tables(*SETS["mine"]), **{f"boards/{version}": files for version, files in VERSIONS.items()}}
 
 # In place of ssh: each host has the tables of `mine`, but for one that doesn't answer.
 SSH = """#!/bin/sh
@@ -55,7 +52,7 @@ exec tar -C mine -cf - .
 
 
 def make_room(room, is_installed):
-    for place, files in SETS.items():
+    for place, files in FOLDERS.items():
         written(room / place, files)
     (room / "bin").mkdir()
     commands = {"bin/ssh": SSH}
