@@ -1,12 +1,12 @@
 #!/usr/bin/env python3
 """Measures what README shows under "Figures", and writes that section and docs/figures.svg.
 
-usage: bench/figures.py [ACPIDIS] [--only WORD] [--runs N] [--seconds N] [--print]
+usage: bench/figures.py [ACPIDIS] [--only WORD] [--runs N] [--seconds N]
 
 ACPIDIS is the built program, out/acpidis if left out. iasl and GNU time have to be there (Debian: apt-get install
 acpica-tools time). Each program runs N times, 5 if left out, and the shortest time counts; its peak memory is that of
-one more run. A run is stopped after so many seconds, 60 if left out. With --print, or where --only leaves sets out,
-nothing is written but the section to standard output.
+one more run. A run is stopped after so many seconds, 60 if left out. Where --only leaves sets out, nothing is
+written but the section to standard output.
 
 The sets:
   10 KB, 40 KB, 1 MB  one table each, compiled by iasl from devices with resources, fields and methods as firmware has
@@ -29,12 +29,12 @@ import measuring
 import hostile_shapes as shapes
 import plot
 from made_aml import tables
+from trying import PROGRAM, TOP, asked
 
-README = measuring.TOP / "README.md"
-PICTURE = measuring.TOP / "docs/figures.svg"
+README = TOP / "README.md"
+PICTURE = TOP / "docs/figures.svg"
 BEGIN, END = "<!-- by bench/figures.py -->\n", "<!-- end -->\n"
 TIME = "/usr/bin/time"
-RUNS = 5
 MOST_WORKERS = 4
 # With a higher load for each processor than these runs bring about, others work on the machine too.
 BUSY_SHARE = 0.6
@@ -44,7 +44,7 @@ DEVICES_OF_A_BUS = 16
 OUTERMOST = b"X000"
 
 # A device of the compiled sets, as firmware has them, by its number
-DEVICE = (measuring.TOP / "bench/device.asl").read_text()
+DEVICE = (TOP / "bench/device.asl").read_text()
 MIXED = bytes.fromhex(
     "700a0560"  # Store (0x05, Local0)
     "700b341261"  # Store (0x1234, Local1)
@@ -109,14 +109,14 @@ def best(command, folder, asked):
     return answer._replace(peak=int((folder / "peak").read_text().split()[-1]) * 1024)
 
 
-def figures_of(name, make, program, asked):
+def figures_of(name, make, words):
     """The figures of a set, in a folder that is gone afterwards."""
     with tempfile.TemporaryDirectory() as room:
         tables, beside = pathlib.Path(room) / "tables", pathlib.Path(room) / "beside"
         beside.mkdir()
         size = measuring.write(tables, make)
         files = sorted(shutil.copy(path, beside) for path in tables.iterdir())
-        commands = [[program, "--workers", str(count), str(tables)] for count in (1, MOST_WORKERS)]
+        commands = [[asked.program, "--workers", str(count), str(tables)] for count in (1, MOST_WORKERS)]
         commands.append(["iasl", "-d", *(os.path.basename(file) for file in files)])
         return Figures(name, size, *(best(command, beside, asked) for command in commands))
 
@@ -161,22 +161,18 @@ def section(all_figures, asked, loads, stolen):
 
 
 def main():
-    words = measuring.command_line(__doc__)
-    words.add_argument("--runs", type=int, default=RUNS)
-    words.add_argument("--print", action="store_true")
-    asked = words.parse_args()
-    program = shutil.which(os.path.abspath(asked.acpidis)) or sys.exit(f"{asked.acpidis} isn't built")
+    words = asked(__doc__, program=PROGRAM, only="", runs=5, seconds=60.0)
     if shutil.which("iasl") is None or not os.access(TIME, os.X_OK):
         sys.exit("iasl or GNU time isn't installed: apt-get install acpica-tools time")
     all_figures, loads, begun = [], [], measuring.processor_time()
     for name, make in SETS:
-        if asked.only in name:
+        if words.only in name:
             loads.append(os.getloadavg()[0])
-            all_figures.append(figures_of(name, make, program, asked))
-            print(row(all_figures[-1], asked.seconds), end="", file=sys.stderr, flush=True)
+            all_figures.append(figures_of(name, make, words))
+            print(row(all_figures[-1], words.seconds), end="", file=sys.stderr, flush=True)
     stolen = measuring.stolen_since(begun)
-    text = section(all_figures, asked, loads, stolen)
-    if asked.print or asked.only:
+    text = section(all_figures, words, loads, stolen)
+    if words.only:
         print(text, end="")
         return
     before, mark, rest = README.read_text().partition(BEGIN)
@@ -184,7 +180,7 @@ def main():
     if not mark or not end:
         sys.exit("README.md has no place for the figures")
     README.write_text(before + mark + text + end + after)
-    PICTURE.write_text(plot.picture(all_figures, asked.seconds, MOST_WORKERS))
+    PICTURE.write_text(plot.picture(all_figures, words.seconds, MOST_WORKERS))
 
 
 if __name__ == "__main__":

@@ -24,7 +24,7 @@ import splice
 from acpidis_tools.asl.blocks import Block, Reader
 from acpidis_tools.asl.names import said_by
 from acpidis_tools.listing import NoListing
-from asking import PROGRAM, asked
+from trying import PROGRAM, asked
 from dumps import dumps_of
 from folders import read_folder
 from hostile import mutated

@@ -11,7 +11,7 @@ import os
 import subprocess
 
 from tally import DEMO, Tally, shim_in, written
-from asking import PROGRAM, asked
+from trying import PROGRAM, asked, run
 import hostile_shapes as shapes
 import measuring
 from made_aml import tables
@@ -41,29 +41,19 @@ def count_calls(program, shim, folder):
     """The length of a set's text, the writes of it, and the blocks of memory that are let go behind the last one."""
     counts, end = os.pipe()
     words = ["sh", "-c", f'exec "$0" "$@" 3>&{end}', program, "--workers", "1", folder]
-    run = subprocess.run(
+    ran = subprocess.run(
         words, env={**os.environ, "LD_PRELOAD": shim}, stdout=subprocess.PIPE, check=True, pass_fds=[end]
     )
     os.close(end)
     with os.fdopen(counts) as lines:
         *_others, writes, freed = map(int, lines.read().split("\n")[-2].split())
-    return len(run.stdout), writes, freed
-
-
-def usage_of(*words):
-    """What a run takes of the system."""
-    process = subprocess.Popen(words, stdout=subprocess.DEVNULL)
-    _, status, usage = os.wait4(process.pid, 0)
-    process.returncode = os.waitstatus_to_exitcode(status)
-    assert process.returncode == 0, words
-    return usage
+    return len(ran.stdout), writes, freed
 
 
 def costs_of(program, folder, make, options=()):
     """What a check of a set takes, which writes no text."""
     measuring.write(folder, make)
-    command = [program, "--workers", "1", "--check", *options, "."]
-    answer = measuring.run(command, folder, 60) or measuring.Answer(60, 60, 0, None)
+    answer = run([program, "--workers", "1", "--check", *options, "."], 60, cwd=folder)
     assert answer.status in (0, 3), (folder, answer)
     return answer
 
@@ -81,10 +71,11 @@ def measure(program, room):
     folder = written(room / "set", tables(shapes.many_methods(METHODS)))
     length, writes, freed = count_calls(program, shim_in(room), folder)
     assert length > 100 * METHODS, length
-    faults = usage_of(program, DEMO).ru_minflt - usage_of(program, "--version").ru_minflt
+    small, least = (run([program, word], 60) for word in (DEMO, "--version"))
+    assert (small.status, least.status) == (0, 0), small
     yield f"writes of {length} bytes", writes, length // LEAST_WRITE
     yield "blocks let go behind the last write", freed, MOST_FREED
-    yield "page faults of a small set", faults, MOST_FAULTS
+    yield "page faults of a small set", small.faults - least.faults, MOST_FAULTS
     for name, (make, most) in SHAPES.items():
         answer = costs_of(program, room / name, lambda: tables(make()))
         yield f"seconds: {name}", round(answer.processor, 2), most

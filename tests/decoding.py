@@ -17,7 +17,7 @@ import shutil
 import tempfile
 
 from tally import DEMO, TOP, Tally, written
-from asking import asked
+from trying import asked
 from acpidis_tools.decoding import Decoder, bits_text, flag_words
 from dumps import order_of
 from folders import read_folder

@@ -13,7 +13,7 @@ import re
 import subprocess
 
 from tally import TOP, Tally, on_full_disk, run_script, timed, written
-from asking import asked
+from trying import asked
 from made_aml import SETS, device, method, table, tables
 
 

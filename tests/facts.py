@@ -22,7 +22,7 @@ import sys
 
 from tally import TOP, Tally, first_difference, module_of, on_full_disk, run_script, written
 from acpidis_tools import command
-from asking import asked
+from trying import asked
 from board import VERSIONS
 from loading import path_text
 from made_aml import buffer, device, region, table, tables

@@ -20,7 +20,7 @@ import tempfile
 from typing import NamedTuple
 
 from tally import Tally, written
-from asking import PROGRAM, asked
+from trying import PROGRAM, asked
 from compare import first_difference, run_program
 from dumps import HEADER_LENGTH, MOST_BYTES, MOST_DUMPS, dumps_of
 from loading import MOST_METHODS

@@ -26,7 +26,7 @@ import tempfile
 import time
 
 from tally import DEMO, TOP, Tally, timed, written
-from asking import PROGRAM, asked
+from trying import PROGRAM, asked
 from compare import write_trial
 from made_aml import tables
 from made_sets import SetMaker

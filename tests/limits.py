@@ -13,7 +13,7 @@ it. The last line is 'N passed, N failed'.
 import subprocess
 
 from tally import Tally, written
-from asking import PROGRAM, asked
+from trying import PROGRAM, asked
 import hostile_shapes as shapes
 from made_aml import tables
 from running import DONE, Options, Outcome, refused, run_folder

@@ -3,7 +3,7 @@
 import random
 import re
 
-from asking import TOP
+from trying import TOP
 from made_code import package_length
 from made_sets import sealed
 from reading import ROWS

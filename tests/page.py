@@ -21,7 +21,7 @@ from acpidis_tools.page import lines as lines_module
 from acpidis_tools.page import tree as tree_module
 from acpidis_tools.comparison import differences
 from acpidis_tools.errors import read_errors
-from asking import asked
+from trying import asked
 from made_aml import SETS, method, table
 from acpidis_tools.page.markup import page
 from page_html import Read, read_page

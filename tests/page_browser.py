@@ -23,7 +23,7 @@ import tempfile
 import time
 
 from tally import TOP, Tally, run_script, written
-from asking import asked
+from trying import asked
 from running import Options, run_folder
 from telling import HOSTILE_FILES
 

@@ -19,7 +19,7 @@ import sys
 import tempfile
 
 from tally import TOP, Tally, shim_in, written
-from asking import PROGRAM
+from trying import PROGRAM
 from limits import WANTS, ended
 from made_aml import SETS, tables
 from running import DONE, RAW

@@ -15,7 +15,7 @@ import pathlib
 import tempfile
 
 from tally import TOP, Tally, first_difference
-from asking import PROGRAM, asked
+from trying import PROGRAM, asked
 from cases import Rows, options_of
 from compare import run_program
 from folders import MAP_NAME

@@ -26,16 +26,15 @@ import shutil
 import subprocess
 import sys
 import tempfile
-import threading
 import time
 
 sys.dont_write_bytecode = True
 
-from asking import asked, built  # noqa: E402
 from folders import file_names  # noqa: E402
 from made_sets import SetMaker, Trial  # noqa: E402
 from running import DONE, RAW, REFUSED, Options, Outcome, run_folder  # noqa: E402
 from set_mutating import SetMutator  # noqa: E402
+from trying import asked, built, run  # noqa: E402
 
 FOLDER, EXTERNALS = "set", "externals.txt"
 MARK = re.compile(r"(?<= )(Maybe|Times)(?= [0-9]+$|$| Times [0-9]+$)", re.MULTILINE)
@@ -48,34 +47,23 @@ def measured_run(program, folder, options):
     """What the program does, and what it takes that is too much."""
     limit = lambda: resource.setrlimit(resource.RLIMIT_AS, (MEMORY_STOP, MEMORY_STOP))
     with tempfile.TemporaryFile() as out, tempfile.TemporaryFile() as err:
-        words = [program, *options.words(), folder]
-        child = subprocess.Popen(words, stdout=out, stderr=err, stdin=subprocess.DEVNULL, preexec_fn=limit)
-        stop = threading.Timer(LONGEST_RUN, child.kill)
-        stop.start()
-        _, status, usage = os.wait4(child.pid, 0)
-        stop.cancel()
-        child.returncode = os.waitstatus_to_exitcode(status)
-        texts = []
-        for file in (out, err):
-            file.seek(0)
-            texts.append(file.read().decode("latin-1"))
-    seconds, memory = usage.ru_utime + usage.ru_stime, usage.ru_maxrss * 1024
-    much = [f"{seconds:.1f} s of a processor"] * (seconds > MOST_SECONDS) + [f"{memory / 1e6:.0f} MB"] * (memory > MOST_MEMORY)
-    return Outcome(child.returncode, *texts), ", ".join(much)
+        how = {"stdout": out, "stderr": err, "stdin": subprocess.DEVNULL, "preexec_fn": limit}
+        took = run([program, *options.words(), folder], LONGEST_RUN, **how)
+        texts = [os.pread(file.fileno(), os.fstat(file.fileno()).st_size, 0).decode("latin-1") for file in (out, err)]
+    much = [f"{took.processor:.1f} s of a processor"] * (took.processor > MOST_SECONDS)
+    much += [f"{took.peak / 1e6:.0f} MB"] * (took.peak > MOST_MEMORY)
+    return Outcome(took.status, *texts), ", ".join(much)
 
 
 def run_program(program, folder, options):
     return measured_run(program, folder, options)[0]
 
 
-def lines_of(outcome):
-    first_error = outcome.err.partition("\n")[0]
-    return [f"status {outcome.status} {first_error}".strip(), *outcome.err.split("\n"), *outcome.out.split("\n")]
-
-
 def first_difference(got, wanted):
     """Which line two outcomes differ in first, of status, errors and text; None where they are the same."""
-    pairs = itertools.zip_longest(lines_of(got), lines_of(wanted), fillvalue="the end")
+    status = lambda it: f"status {it.status} {it.err.partition(chr(10))[0]}".strip()
+    lines = ([status(it), *it.err.split("\n"), *it.out.split("\n")] for it in (got, wanted))
+    pairs = itertools.zip_longest(*lines, fillvalue="the end")
     return next((f"{one!r}, not {other!r}" for one, other in pairs if one != other), None)
 
 

@@ -12,7 +12,7 @@ import sys
 
 sys.dont_write_bytecode = True
 
-from asking import asked  # noqa: E402
+from trying import asked  # noqa: E402
 from running import Options, run_folder  # noqa: E402
 
 

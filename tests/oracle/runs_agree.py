@@ -16,7 +16,7 @@ import sys
 sys.dont_write_bytecode = True
 
 from any_run import RunNamespace, agreed  # noqa: E402
-from asking import asked  # noqa: E402
+from trying import asked  # noqa: E402
 from loading import Namespace, path_text  # noqa: E402
 from reading import Name  # noqa: E402
 

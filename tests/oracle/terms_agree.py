@@ -25,7 +25,7 @@ from typing import NamedTuple
 
 sys.dont_write_bytecode = True
 
-from asking import asked, built  # noqa: E402
+from trying import asked, built  # noqa: E402
 from compare import run_program, write_trial  # noqa: E402
 from loading import PREDEFINED, path_text  # noqa: E402
 from made_code import package_length, shortest  # noqa: E402

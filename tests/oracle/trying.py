@@ -1,11 +1,18 @@
-"""What all tests and benches ask of their command line, and the program that they try."""
+"""What tests and benches have of a trial: the words of their command line, the program that they try, and what a run of it takes."""
 
 import argparse
+import os
 import pathlib
+import subprocess
 import sys
+import threading
+import time
+from collections import namedtuple
 
 TOP = pathlib.Path(__file__).resolve().parents[2]
 PROGRAM = TOP / "out/acpidis"
+# What a run took: seconds, processor seconds, peak memory in bytes, its status, and the page faults that needed no disk
+Answer = namedtuple("Answer", "seconds processor peak status faults")
 
 
 def asked(about, **names):
@@ -32,3 +39,17 @@ def asked(about, **names):
 def built(program=PROGRAM):
     """The program, which has to be there."""
     return program.resolve() if program.exists() else sys.exit("the program isn't built: ./acpidis demo builds it")
+
+
+def run(command, limit, **how):
+    """What a run takes. After so many seconds it is ended by a signal."""
+    started = time.monotonic()
+    child = subprocess.Popen(command, **{"stdout": subprocess.DEVNULL, "stderr": subprocess.DEVNULL, **how})
+    stop = threading.Timer(limit, child.kill)
+    stop.start()
+    _, status, usage = os.wait4(child.pid, 0)
+    seconds = time.monotonic() - started
+    stop.cancel()
+    child.returncode = os.waitstatus_to_exitcode(status)
+    used = usage.ru_utime + usage.ru_stime, usage.ru_maxrss * 1024, child.returncode, usage.ru_minflt
+    return Answer(seconds, *used)
