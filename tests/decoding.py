@@ -21,14 +21,13 @@ from trying import asked
 from acpidis_tools.decoding import Decoder, bits_text, flag_words
 from dumps import order_of
 from folders import read_folder
-from acpidis_tools.identifiers import eisa_id, eisa_number, uuid_text
 from iasl import facts_of
 from acpidis_tools.listing import Listing, read_listing
 from acpidis_tools.names import FIELD_LISTS, Names
 from made_aml import SETS, buffer, tables
 from acpidis_tools.resources import descriptors
 from running import REFUSED, Options, run_folder
-from acpidis_tools.standard import space_name, status_words
+from acpidis_tools.standard import eisa_id, eisa_number, space_name, status_words, uuid_text
 
 EISA = re.compile("[A-Z]{3}[0-9A-F]{4}")
 LONG_NAME = "5C 5F 53 42 5F 00"  # \_SB_ and its NUL

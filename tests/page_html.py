@@ -5,7 +5,7 @@ from collections.abc import Iterator
 from html.parser import HTMLParser
 
 from loading import path_text
-from acpidis_tools.page.packing import BETWEEN, unpacked
+from acpidis_tools.page.sheet import BETWEEN, unpacked
 
 Path = tuple[str, ...]
 Told = tuple[str, str, object, tuple]

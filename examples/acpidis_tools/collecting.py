@@ -9,12 +9,11 @@ from collections import defaultdict
 from acpidis_tools.comparison import Said, text_of, texts_of
 from acpidis_tools.decoding import Decoder, flag_words, hardware_name
 from acpidis_tools.errors import Fault
-from acpidis_tools.identifiers import eisa_number
 from acpidis_tools.listing import HEADER, Block, Dump, Line, Listing, Path, path_of, path_text
 from acpidis_tools.names import FIELD_LISTS, PREDEFINED, Meaning, Names, Sort, name_of
 from acpidis_tools.resources import Descriptor
 from acpidis_tools.schema import COLUMNS
-from acpidis_tools.standard import DEVICE_NAMES, space_name
+from acpidis_tools.standard import DEVICE_NAMES, eisa_number, space_name
 from acpidis_tools.terms import Place, Term, is_written, places
 
 # SQLite's integers have 64 bits, one of which is the sign.

@@ -7,11 +7,11 @@ from collections import defaultdict
 from typing import NamedTuple
 
 from acpidis_tools import objects
-from acpidis_tools.identifiers import EISA_NUMBER, eisa_id, uuid_text, uuid_with_name, with_name
 from acpidis_tools.listing import Line, Listing
 from acpidis_tools.names import FIELD_LISTS, FIRST_WORD, Meaning, Names, is_name
 from acpidis_tools.resources import Descriptor, descriptors
-from acpidis_tools.standard import ACCESS_TYPES, LOCK_RULES, PREDEFINED_NAMES, UPDATE_RULES, named, space_name, status_words
+from acpidis_tools.standard import ACCESS_TYPES, EISA_NUMBER, LOCK_RULES, PREDEFINED_NAMES, UPDATE_RULES, eisa_id, named
+from acpidis_tools.standard import space_name, status_words, uuid_text, uuid_with_name, with_name
 from acpidis_tools.terms import Term, places, terms_of
 
 HARDWARE_NAMES = ("_HID", "_CID")

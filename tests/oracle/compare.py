@@ -31,16 +31,16 @@ import time
 sys.dont_write_bytecode = True
 
 from folders import file_names  # noqa: E402
-from made_sets import SetMaker, Trial  # noqa: E402
+from made_sets import SetMaker  # noqa: E402
+from mutating import MutatedMaker  # noqa: E402
 from running import DONE, RAW, REFUSED, Options, Outcome, run_folder  # noqa: E402
-from set_mutating import SetMutator  # noqa: E402
 from trying import asked, built, run  # noqa: E402
 
 FOLDER, EXTERNALS = "set", "externals.txt"
 MARK = re.compile(r"(?<= )(Maybe|Times)(?= [0-9]+$|$| Times [0-9]+$)", re.MULTILINE)
 LONGEST_RUN, MOST_SECONDS = 60, 10
 MOST_MEMORY, MEMORY_STOP = 2 << 30, 6 << 30
-MOST_DIFFERENCES, MOST_CHANGES = 5, 4
+MOST_DIFFERENCES = 5
 
 
 def measured_run(program, folder, options):
@@ -109,35 +109,6 @@ class Comparison:
         if self.marks:
             print(f"{self.marks['Maybe']} paths that only may stand, {self.marks['Times']} that are declared several times")
         print(f"{self.ends.total() - self.differences} passed, {self.differences} failed")
-
-
-class MutatedMaker:
-    """Makes sets with changes, in place of a maker of sets: of its sets, and of known ones."""
-
-    def __init__(self, maker):
-        self.maker, self.chance, self.known = maker, maker.chance, maker.known
-        self.mutator = SetMutator(self.chance, maker.any_run)
-        for files in self.known:
-            self.mutator.learn(files)
-
-    def trial(self):
-        if self.known and self.chance.random() < 0.6:
-            files = self.chance.choice(self.known)
-            trial = Trial(files, self.maker.options(True), self.known_externals(files))
-        else:
-            trial = self.maker.trial()
-            self.mutator.learn(trial.files)
-        for _ in range(self.chance.choice((1, 1, 1, 2, MOST_CHANGES))):
-            trial.files = self.mutator.mutated(trial.files)
-        return trial
-
-    def known_externals(self, files):
-        """A file for `--externals` with names that stand in the tables."""
-        if not self.maker.gives or self.chance.random() < 0.2:
-            return None
-        segments = self.mutator.segments_of(files) or ["AAAA"]
-        paths = [".".join(self.chance.choices(segments, k=self.chance.choice((1, 1, 1, 2, 3)))) for _ in range(20)]
-        return "".join(f"\\{path} {self.chance.randrange(8)}\n" for path in paths).encode()
 
 
 def kept_words(folder, options):

@@ -9,8 +9,7 @@ from html import escape
 from acpidis_tools.errors import Fault, name_in, raw_bytes
 from acpidis_tools.listing import Block, Line, path_text
 from acpidis_tools.names import Meaning, Names, Sort, Uses, is_name
-from acpidis_tools.page.packing import BETWEEN, chunk_html
-from acpidis_tools.page.sheet import Sheet, classed, counted
+from acpidis_tools.page.sheet import BETWEEN, Sheet, chunk_html, classed, counted
 
 # A browser's tree of elements ends at 512 levels.
 DEEPEST_FOLD = 60

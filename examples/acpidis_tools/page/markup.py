@@ -16,8 +16,7 @@ from acpidis_tools.errors import raw_lines
 from acpidis_tools.listing import TEXT, Listing, path_text
 from acpidis_tools.names import PREDEFINED
 from acpidis_tools.page.lines import blocks_html, uses_html
-from acpidis_tools.page.packing import index_html
-from acpidis_tools.page.sheet import Sheet, counted, link
+from acpidis_tools.page.sheet import Sheet, counted, index_html, link
 from acpidis_tools.page.tables import table_changes_html, tables_html
 from acpidis_tools.page.tree import TreeWriter
 

@@ -1,8 +1,12 @@
-"""What a page is made of, and the small pieces of HTML that all of its parts are written with."""
+"""What a page is made of, and the small pieces of HTML that all of its parts are written with; and parts of a page that are
+packed, since they are too many to be laid out at once: a browser unpacks those that come into sight."""
 
 from __future__ import annotations
 
+import base64
+import zlib
 from dataclasses import dataclass, field
+from html import escape
 from typing import Optional
 
 from acpidis_tools.comparison import Comparison
@@ -13,6 +17,8 @@ from acpidis_tools.names import PREDEFINED, Meaning, Names, Sort
 
 # The page of a longer listing has its lines packed.
 LONG_TEXT = 200_000
+# What stands between the lines of a packed part and their uses.
+BETWEEN = "\n<!-- uses -->\n"
 
 
 @dataclass
@@ -107,3 +113,28 @@ def classed(*words: str) -> str:
 
 def counted(count: int, word: str) -> str:
     return f"{count:,} {word}{'' if count == 1 else 's'}"
+
+
+def packed(html: str) -> str:
+    return base64.b64encode(zlib.compress(html.encode(), 6)).decode()
+
+
+def unpacked(text: str) -> str:
+    return zlib.decompress(base64.b64decode(text)).decode()
+
+
+def chunk_html(first: int, count: int, texts: list[str], html: str) -> str:
+    """Some lines as plain text, which can be found and printed, and what they become when they are seen."""
+    head = f'<pre class=chunk style=--n:{len(texts)} data-line={first} data-count={count} data-packed="{packed(html)}">'
+    text = "\n".join(texts)
+    return f"{head}{escape(text)}</pre>\n"
+
+
+def branch_html(html: str) -> str:
+    """A part of the tree, which is unpacked when what it is in is opened."""
+    return f'<div class=branch data-packed="{packed(html)}"></div>\n'
+
+
+def index_html(lines: list[str]) -> str:
+    """What is looked through by the search."""
+    return f'<script type="text/plain" id=index>{packed(chr(10).join(lines))}</script>\n'

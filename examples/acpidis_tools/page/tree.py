@@ -10,8 +10,7 @@ from html import escape
 from acpidis_tools.errors import raw_lines
 from acpidis_tools.listing import Path, Row, path_of, path_text
 from acpidis_tools.names import PREDEFINED
-from acpidis_tools.page.packing import branch_html
-from acpidis_tools.page.sheet import Sheet, classed, link
+from acpidis_tools.page.sheet import Sheet, branch_html, classed, link
 from acpidis_tools.standard import DEVICE_NAMES
 
 DEEPEST_FOLD = 60
