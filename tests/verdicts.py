@@ -73,7 +73,7 @@ def check_trials(checks, tried, room):
             tried.WrongBody(name, [(file, old, new)], {tried.place_at(file, SOURCES[file], SOURCES[file].index(old))})
             for name, file, old, new, *_ in bodies
         ]
-        found = dict(tried.judged(kit, Crate(), waiting, f"{room}/kept", None, is_seeded=False))
+        found = dict(tried.judged(kit, Crate(), waiting, f"{room}/kept", is_seeded=False))
         runs, wanted = tried.read(log).splitlines(), {name: (kind, words) for name, *_, kind, words in bodies}
         told = {name: (it.kind, wanted[name][1] in it.reason and wanted[name][1]) for name, it in found.items()}
         checks.is_same(f"{', '.join(wanted)}: {found} by {runs}", (told, len(runs)), (wanted, count))
