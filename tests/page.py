@@ -72,16 +72,14 @@ class Checks(Tally):
 
     def check_frame(self, what: str, read: Read, outcome: Outcome) -> None:
         """Anchors, links, elements and lines."""
-        links = {value[1:] for name, value in read.attributes if name == "href" and value.startswith("#")}
-        self.is_same(f"links without an anchor in {what}", links - set(read.anchors), set())
+        self.is_same(f"links without an anchor in {what}", read.links - set(read.anchors), set())
         self.is_same(f"anchors twice in {what}", [one for one, count in Counter(read.anchors).items() if count > 1], [])
         rows = outcome.out.partition("\nNamespace ")[2].partition("\nDef")[0]
-        paths = set(re.findall(r"^  (\\\S*) [A-Z]", rows, re.MULTILINE))
-        marks = {path: marks_of(row) for path, row in re.findall(r"^  (\\\S*) (.*)", rows, re.MULTILINE)}
+        marks = {path: marks_of(row) for path, row in re.findall(r"^  (\\\S*) ([A-Z].*)", rows, re.MULTILINE)}
         shown_marks = {path: tuple(row) for path, row in read.rows.items() if path in marks}
         self.is_same(f"marks of rows of {what}", shown_marks, marks)
         declared = {found["id"] for tag, found, *_ in read.names if tag == "dfn" and "id" in found}
-        self.is_same(f"declared paths without an anchor in {what}", paths - declared, set())
+        self.is_same(f"declared paths without an anchor in {what}", marks.keys() - declared, set())
         self.is_same(f"elements of {what}", read.elements - ELEMENTS, set())
         odd = [name for name, value in read.attributes if name.startswith("on") or name == "src"]
         odd += [value for name, value in read.attributes if name == "href" and value[0] != "#"]
@@ -198,8 +196,7 @@ def check_only(checks: Checks, outcome: Outcome) -> None:
         read = read_page(run.stdout)
         if what[0] == "\\":
             checks.is_same(f"the lines of {what}", set(read.lines), wanted)
-        links = {value[1:] for name, value in read.attributes if name == "href" and value.startswith("#")}
-        checks.is_same(f"links without an anchor at {what}", links - set(read.anchors), set())
+        checks.is_same(f"links without an anchor at {what}", read.links - set(read.anchors), set())
         checks.is_same(f"lines of {what}", [text for line, text in read.lines.items() if text != lines[line - 1]], [])
     run = checks.run("--only", "\\NONE", listing)
     checks.is_same("only what isn't there", (run.returncode, run.stdout, run.stderr.count("\n")), (1, "", 1))
@@ -221,14 +218,10 @@ def check_refusals(checks: Checks, outcome: Outcome) -> None:
     """Texts that are no listing: one line, and status 1."""
     lines = outcome.out.splitlines(keepends=True)
     texts = {
-        "an empty text": "",
-        "another tool's": 'DefinitionBlock ("", "DSDT", 2, "A", "B", 1)\n{\n}\n',
-        "a check": 'Check "a" Bytes 1\n',
-        "a text": "a listing\n",
-        "no ASCII": outcome.out.replace("Return", "R\xE9turn"),
+        "an empty text": "", "another tool's": 'DefinitionBlock ("", "DSDT", 2, "A", "B", 1)\n{\n}\n',
+        "a check": 'Check "a" Bytes 1\n', "a text": "a listing\n", "a line that is cut": outcome.out[:-3],
+        "no ASCII": outcome.out.replace("Return", "R\xE9turn"), "21 MB": outcome.out + "  \n" * 7_000_000,
         "a line less": outcome.out.replace("    Device (PCI0) {\n", ""),
-        "a line that is cut": outcome.out[:-3],
-        "21 MB": outcome.out + "  \n" * 7_000_000,
         **{f"the first {count} lines": "".join(lines[:count]) for count in range(1, len(lines), 7)},
     }
     for what, text in texts.items():

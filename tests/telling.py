@@ -48,8 +48,7 @@ def samples(room: pathlib.Path, folders: list, sets: int) -> Iterator[tuple[str,
         ("the set of runs", written(room / "runs", RUNS_FILES), Options(any_run=True)),
         *((str(it), it, Options(any_run=True, any_sum=True)) for it in folders),
     ]
-    for what, folder, options in named:
-        yield what, folder, options, run_folder(folder, options)
+    yield from ((*sample, run_folder(*sample[1:])) for sample in named)
     for any_run in (False, True):
         maker, number = SetMaker(random.Random(0), any_run=any_run), 0
         while number < sets:
@@ -230,8 +229,11 @@ class Teller:
             opcode, names = (term.opcode, term.names()) if isinstance(term, Op) else (None, [])
             self.then = self.then_by.get(id(term), {})
             if opcode == METHOD:
-                path = self.tell_declared(names[0], scope)
-                self.tell_body(self.bodies[self.table, term.tail[0]].terms or [], path)
+                path, own = self.tell_declared(names[0], scope), {}
+                self.body = path_text(path)
+                for inner in self.bodies[self.table, term.tail[0]].terms or []:
+                    self.tell_term(inner, path, own, "read")
+                self.body = None
             elif opcode == SCOPE:
                 path = self.led_by(term)
                 self.tell_led(names[0], path, scope)
@@ -253,13 +255,6 @@ class Teller:
             else:
                 self.tell_term(term, scope, {}, "read")
 
-    def tell_body(self, terms: list, path: Path) -> None:
-        own: dict[Path, int] = {}
-        self.body = path_text(path)
-        for term in terms:
-            self.tell_term(term, path, own, "read")
-        self.body = None
-
     def tell_term(self, term: object, scope: Path, own: dict, how: str | None) -> None:
         """The names of a term; the paths that it declares in a body are known behind it, with their places."""
         if isinstance(term, Name):
@@ -280,13 +275,12 @@ class Teller:
             own |= declared if self.body else {}
 
     def declare(self, name: Name, scope: Path, declared: dict) -> None:
-        if not self.body:
+        if self.body:
+            path = name.placed(scope)
+            declared |= {} if path is None else {path: len(self.told)}
+            self.tell(name, "declares in its body", path)
+        else:
             self.tell_declared(name, scope)
-            return
-        path = name.placed(scope)
-        if path is not None:
-            declared[path] = len(self.told)
-        self.tell(name, "declares in its body", path)
 
     def tell_parts(self, term: Op, scope: Path, own: dict, declared: dict) -> None:
         its_own = term.declared() if term.opcode not in FIELD_LISTS else []
@@ -301,12 +295,11 @@ class Teller:
         if term.opcode == NAME and not self.body:
             self.values.setdefault(term.names()[0].placed(scope), []).append(constant(term.parts[1]))
         if term.opcode in (REGION, DATA_REGION):
-            named = [it.name if isinstance(it, Named) and not it.args else None for it in term.parts[2:4]]
-            meant = [self.meant(it, scope, own) if it and term.opcode == REGION else [] for it in named]
+            space, *parts = term.parts[1:4] if term.opcode == REGION else ((0, None), None, None)
+            named = [it.name if isinstance(it, Named) and not it.args else None for it in parts]
+            meant = [self.meant(it, scope, own) if it else [] for it in named]
             path = path_text(term.names()[0].placed(scope) or ())
-            is_data = term.opcode == DATA_REGION
-            numbers = [None if is_data else small(constant(part)) for part in term.parts[2:4]]
-            self.regions.append(((self.body, path, None if is_data else term.parts[1][1]), numbers, meant))
+            self.regions.append(((self.body, path, space[1]), [small(constant(part)) for part in parts], meant))
 
     def tell_units(self, term: Op, scope: Path, own: dict, declared: dict) -> None:
         bit = 0

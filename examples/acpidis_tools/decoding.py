@@ -93,11 +93,14 @@ class Decoder:
             self.kept = line.number, terms_of(line)
         return self.kept[1]
 
+    def argument(self, line: Line, place: int) -> Term | None:
+        """An argument of a line's first term."""
+        terms = self.terms(line)
+        return terms[0].argument(place) if terms else None
+
     def access_at(self, line: Line) -> str:
         """The access that the units behind an Access line have."""
-        if line.term not in ("Access", "ExtendedAccess"):
-            return ""
-        kind = self.terms(line)[0].argument(0)
+        kind = self.argument(line, 0) if line.term in ("Access", "ExtendedAccess") else None
         return named(ACCESS_TYPES, (kind.number or 0) & 0x0F) if kind else ""
 
     def meanings(self, line: Line) -> dict[int, Meaning]:
@@ -105,8 +108,7 @@ class Decoder:
         return dict(zip(places_of_names, self.names.meanings[line.number]))
 
     def add_patch(self, line: Line) -> None:
-        terms = self.terms(line)
-        source = terms[0].argument(0) if terms else None
+        source = self.argument(line, 0)
         meaning = self.meanings(line).get(source.place) if source else None
         first, bits = self.bits_of(line)
         if meaning and meaning.anchor and first is not None and bits is not None:
@@ -114,8 +116,7 @@ class Decoder:
 
     def bits_of(self, line: Line) -> tuple[int | None, int | None]:
         """The first bit and the width of what a Create term makes, each where it is constant."""
-        terms = self.terms(line)
-        index, count = (terms[0].argument(place) if terms else None for place in (1, 2))
+        index, count = self.argument(line, 1), self.argument(line, 2)
         bits, unit = FIELD_BITS.get(line.term, (None, 1))
         if line.term == "CreateField" and count:
             bits = count.number
@@ -141,8 +142,7 @@ class Decoder:
 
     def anchor_of(self, line: Line, buffer: Term) -> str:
         """The anchor of the name that is declared with a buffer as its value."""
-        terms = self.terms(line)
-        if line.term != "Name" or not terms or terms[0].argument(1) is not buffer:
+        if line.term != "Name" or self.argument(line, 1) is not buffer:
             return ""
         meaning = self.meanings(line).get(1)
         return meaning.anchor if meaning else ""
@@ -166,8 +166,7 @@ class Decoder:
         """What the value of a predefined object says, which a line declares or returns."""
         if line.term not in ("Name", "Return") or len(line.words) < 2:
             return []
-        terms = self.terms(line)
-        value = terms[0].argument(1 if line.term == "Name" else 0) if terms else None
+        value = self.argument(line, 1 if line.term == "Name" else 0)
         return objects.rows_of(self.object_name(line), value) if value else []
 
     def object_name(self, line: Line) -> str:
@@ -185,9 +184,7 @@ class Decoder:
         if hardware_name(line) is None:
             return []
         found = []
-        for term, place in places(self.terms(line)):
-            if place.kind not in "DT" or term.place < 0:
-                continue
+        for term in (term for term, place in places(self.terms(line)) if place.kind in "DT" and term.place >= 0):
             if term.word[0] == '"':
                 found.append((term.place, term.word[1:-1]))
             elif EISA_NUMBER.fullmatch(term.word) and eisa_id(term.word):
@@ -205,7 +202,7 @@ class Decoder:
         elif line.term in FIELD_LISTS:
             notes.append(", ".join(flag_words(self.terms(line))))
         elif line.term == "OperationRegion":
-            space = self.terms(line)[0].argument(1)
+            space = self.argument(line, 1)
             notes += [space_name(space.number)] if space and space.number is not None else []
         elif line.term in ("Name", "Method", "Device", "Return"):
             notes += self.name_notes(line, bool(notes))
@@ -214,7 +211,7 @@ class Decoder:
     def name_notes(self, line: Line, has_identifier: bool) -> list[str]:
         name = declared_name(line)
         if name == "_STA" or line.term == "Return" and line.method and line.method[-1] == "_STA":
-            value = self.terms(line)[0].argument(1 if name else 0) if line.term != "Method" else None
+            value = self.argument(line, 1 if name else 0) if line.term != "Method" else None
             if value and value.number is not None:
                 return [status_words(value.number)]
             return [PREDEFINED_NAMES[name]] if name else []
