@@ -85,8 +85,7 @@ def different_lines(here: Said, there: Text) -> list[int]:
     numbers = []
     for number, text in here[first:len(here) - last]:
         others[text] -= 1
-        if others[text] < 0:
-            numbers.append(number)
+        numbers += [number] if others[text] < 0 else []
     return numbers
 
 

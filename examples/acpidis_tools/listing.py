@@ -103,8 +103,7 @@ class Row:
     @property
     def marks(self) -> str:
         """What a reader sees of both."""
-        times = f"{self.times:,} times" if self.times > 1 else ""
-        return ", ".join(filter(None, ("maybe" if self.is_maybe else "", times)))
+        return ", ".join(["maybe"] * self.is_maybe + [f"{self.times:,} times"] * (self.times > 1))
 
 
 @dataclass
@@ -193,10 +192,8 @@ class Reader:
         if bare == "}":
             depth -= 1
         pieces = WORD.split(bare)
-        is_empty = len(pieces) == 1 and bare != "}"
-        if len(text) - len(bare) != 2 * depth or is_empty or not all(map(BETWEEN.fullmatch, pieces[::2])):
-            raise self.refuse()
-        if bare.startswith("Raw") and not RAW.fullmatch(bare):
+        is_wrong = len(text) - len(bare) != 2 * depth or len(pieces) == 1 and bare != "}"
+        if is_wrong or not all(map(BETWEEN.fullmatch, pieces[::2])) or bare.startswith("Raw") and not RAW.fullmatch(bare):
             raise self.refuse()
         self.at += 1
         return Line(self.at, depth, pieces)

@@ -59,27 +59,21 @@ class Reader:
         self.is_filled[-1] = True
 
     def mark(self, mark: str, is_end: bool) -> None:
-        if mark == "," or mark == ")":
-            self.part(mark)
+        if mark in ",)":
+            # It ends an argument, which may be empty.
+            self.open[-1] += [] if self.is_filled[-1] else [None]
+            self.is_filled[-1] = False
+        if mark in ")}":
+            self.leave()
         elif mark == "(" and self.last:
             self.enter(self.last.arguments)
         elif mark == "{" and self.last and not is_end:
             self.last.braced = []
             self.enter(self.last.braced)
-        elif mark == "}":
-            self.leave()
         elif mark[0] == "{" and self.last:
             self.last.braced = bytes.fromhex(mark[1:-1].replace(",", ""))
-        elif mark[0] not in "({":
+        elif mark[0] not in "({,":
             self.word(mark, -1)
-
-    def part(self, mark: str) -> None:
-        """Ends an argument, which may be empty."""
-        if not self.is_filled[-1]:
-            self.open[-1].append(None)
-        self.is_filled[-1] = False
-        if mark == ")":
-            self.leave()
 
     def enter(self, parts: list) -> None:
         self.open.append(parts)
@@ -89,8 +83,7 @@ class Reader:
         if len(self.open) > 1:
             self.open.pop()
             self.is_filled.pop()
-            above = self.open[-1]
-            self.last = above[-1] if above else None
+            self.last = self.open[-1][-1] if self.open[-1] else None
 
 
 def terms_of(line: Line) -> list[Term]:
@@ -103,10 +96,9 @@ def terms_in(pieces: list[str]) -> list[Term]:
     for at, piece in enumerate(pieces):
         if at % 2:
             reader.word(piece, at // 2)
-            continue
-        marks = MARK.findall(piece)
-        for place, mark in enumerate(marks):
-            reader.mark(mark, at == last and place == len(marks) - 1)
+        marks = MARK.findall(piece) if at % 2 == 0 else []
+        for place, mark in enumerate(marks, 1):
+            reader.mark(mark, at == last and place == len(marks))
     return [term for term in reader.siblings if term is not None]
 
 

@@ -29,10 +29,8 @@ def raw_list_html(sheet: Sheet) -> list[str]:
     raw = [line for line in raw_lines(sheet.listing) if sheet.shows(line.number)]
     if not raw:
         return []
-    items = [
-        f"<li><a href=#{line.number}>{path_text(line.method)}</a> {sheet.faults.get(line.number, '')}</li>\n"
-        for line in raw
-    ]
+    name = lambda line: f"<a href=#{line.number}>{path_text(line.method)}</a>"
+    items = [f"<li>{name(line)} {sheet.faults.get(line.number, '')}</li>\n" for line in raw]
     head = "1 body is raw" if len(raw) == 1 else f"{len(raw):,} bodies are raw"
     return [f"<section id=raw><details><summary>{head}</summary><ul>\n", *items, "</ul></details></section>\n"]
 
@@ -71,8 +69,7 @@ def comparison_html(sheet: Sheet) -> list[str]:
     for path, text in found.changes.items():
         # Lines that this listing alone has are struck out, those of the other one stand where it has them.
         lines = differences(found.here[path], text)
-        lines = (f"<{mark}>{escape(line)}</{mark}>" if mark else escape(line) for mark, line in lines)
-        shown = "\n".join(lines)
+        shown = "\n".join(f"<{mark}>{escape(line)}</{mark}>" if mark else escape(line) for mark, line in lines)
         head = f"<details id=c{names[path].number}><summary>{links[path]}</summary>"
         changes.append(f"<li class=changed>{head}<pre>{shown}</pre></details></li>\n")
     written = [f"<section id=comparison><h2>Beside {escape(found.other)}</h2>\n", *table_changes_html(sheet)]
@@ -107,12 +104,11 @@ def head_html(sheet: Sheet, style: str, script: str) -> str:
 
 def navigation_html(sheet: Sheet, tree: TreeWriter) -> list[str]:
     listing = sheet.listing
-    kinds = " ".join(
-        f"<button type=button value={kind}>{kind} <small>{count:,}</small></button>" for kind, count in tree.counts.most_common()
-    )
+    button = "<button type=button value={0}>{0} <small>{1:,}</small></button>"
+    kinds = " ".join(button.format(*it) for it in tree.counts.most_common())
     counts = {"line": listing.line_count, "table": len(listing.dumps), "path": len(listing.rows)}
     facts = ", ".join(counted(count, word) for word, count in counts.items())
-    part = f"<p>a part of {facts}</p>" if sheet.shown is not None else f"<p>{facts}</p>"
+    part = f"<p>{'a part of ' * (sheet.shown is not None)}{facts}</p>"
     oem = title_of(listing)
     shown_oem = f"<p class=oem>{escape(oem)}</p>" if oem and sheet.name else ""
     return [
@@ -128,14 +124,9 @@ def navigation_html(sheet: Sheet, tree: TreeWriter) -> list[str]:
 def page(sheet: Sheet) -> str:
     style, script = ((HERE / name).read_text() for name in ("page.css", "page.js"))
     tree = TreeWriter(sheet)
-    return "".join([
-        head_html(sheet, style, script),
-        *navigation_html(sheet, tree),
-        "<main id=main tabindex=-1>\n<p id=where hidden></p>\n",
-        *comparison_html(sheet),
-        *raw_list_html(sheet),
-        *tables_html(sheet),
-        *blocks_html(sheet),
-        *undeclared_html(sheet),
-        f"</main>\n{index_html(tree.index())}<script>{script}</script>\n</body>\n</html>\n",
-    ])
+    parts = [head_html(sheet, style, script), *navigation_html(sheet, tree)]
+    parts.append("<main id=main tabindex=-1>\n<p id=where hidden></p>\n")
+    for part in (comparison_html, raw_list_html, tables_html, blocks_html, undeclared_html):
+        parts += part(sheet)
+    parts.append(f"</main>\n{index_html(tree.index())}<script>{script}</script>\n</body>\n</html>\n")
+    return "".join(parts)

@@ -80,8 +80,7 @@ class Sheet:
             for line in block.lines:
                 while opened and line.number > opened[-1].end:
                     opened.pop()
-                is_there = line.number <= kept_to or is_at(line, self.names.meanings[line.number], wanted)
-                if is_there:
+                if line.number <= kept_to or is_at(line, self.names.meanings[line.number], wanted):
                     kept_to = max(kept_to, line.end)
                     found.add(line.number)
                     found.update(number for head in opened for number in (head.number, head.end))
@@ -92,12 +91,8 @@ class Sheet:
 
 def is_at(line: Line, meanings: list[Meaning], wanted: Path) -> bool:
     """Whether a line declares a path at or below the wanted one, or opens it."""
-    for meaning in meanings:
-        is_declared = meaning.sort in (Sort.DECLARES, Sort.AGAIN)
-        opens = line.term == "Scope" and meaning.sort is Sort.LEADS
-        if (is_declared or opens) and meaning.path is not None and meaning.path[:len(wanted)] == wanted:
-            return True
-    return False
+    sorts = [Sort.DECLARES, Sort.AGAIN] + [Sort.LEADS] * (line.term == "Scope")
+    return any(it.sort in sorts and it.path is not None and it.path[:len(wanted)] == wanted for it in meanings)
 
 
 def link(path: Path, text: str = "") -> str:
@@ -105,10 +100,8 @@ def link(path: Path, text: str = "") -> str:
 
 
 def classed(*words: str) -> str:
-    words = tuple(filter(None, words))
-    if not words:
-        return ""
-    return f' class="{" ".join(words)}"' if len(words) > 1 else f" class={words[0]}"
+    shown = " ".join(filter(None, words))
+    return f' class="{shown}"' if " " in shown else f" class={shown}" if shown else ""
 
 
 def counted(count: int, word: str) -> str:

@@ -42,11 +42,9 @@ def nodes_of(rows: Iterable[Row], added: Iterable[Path]) -> dict[Path, Node]:
 
 def kind_html(kind: str, sheet: Sheet) -> str:
     """A kind, and what an Alias stands for as a link."""
-    word, target = kind.partition(" \\")[::2]
-    if not target:
-        return kind
-    path = path_of(f"\\{target}")
-    return f"{word} {link(path)}" if sheet.has_path(path) else f"{word} {path_text(path)}"
+    word, _, target = kind.partition(" \\")
+    is_link = target and sheet.has_path(path_of(f"\\{target}"))
+    return f"{word} {link(path_of(f'{chr(92)}{target}'))}" if is_link else kind
 
 
 class TreeWriter:
