@@ -106,8 +106,8 @@ def methods(count, body):
     return each(count, lambda it: method(it, 0, body))
 
 
-# A Name that is used, and a call with seven arguments.
-LEAF_NAME, SEVEN = name(LEAF), b"AAAA" + b"\x60" * 7
+# A Name that is used, a call with seven arguments, and a path as long as it can be.
+LEAF_NAME, SEVEN, LONG_PATH = name(LEAF), b"AAAA" + b"\x60" * 7, b"\x5c\x2f\xff" + each(SEGMENTS)
 
 
 # ---- AML by how much of it there is, and by how deep it stands
@@ -159,19 +159,6 @@ def deep_owners(count, own):
     return within(DEEP, main_method(b"") + within(own, each(count, lambda it: device(main_method(b""), it))))
 
 
-def deep_aliases_upward(count, depth, share=None):
-    """Aliases there of a name at the root, or of one that stands a half or a third of the way down."""
-    above = depth // share if share else 0
-    return within(above, LEAF_NAME + within(depth - above, each(count, alias)))
-
-
-def deep_unsettled(count, depth):
-    """Names below paths that nothing but an External's path has, each before an Alias of a name at the root."""
-    externals = each(count, lambda it: b"\x15\x5c\x2f\x03X" + it[1:] + b"YYYYZZZZ\0\0")
-    names = each(count, lambda it: name(b"\x5c\x2eX" + it[1:] + b"WWWW") + alias(it))
-    return LEAF_NAME + externals + within(depth, names)
-
-
 def alias_chain(count):
     """Aliases of which each means the one before it, and the first the first name."""
     return b"".join(alias(segment(number + 1), segment(number)) for number in range(count))
@@ -180,12 +167,6 @@ def alias_chain(count):
 def deep_body(depth, body, beside=b""):
     """A method of this body in a scope of so many segments, and what stands beside it."""
     return within(depth, LEAF_NAME + beside + main_method(body))
-
-
-def deep_local_uses(count, depth):
-    """Uses of the last of a thousand names that the method declares beside itself."""
-    declared = each(999, lambda it: name(b"^" + it))
-    return deep_body(depth, declared + name(b"^NEAR") + b"^NEAR" * count)
 
 
 def deep_root_uses(count, depth):
@@ -231,24 +212,6 @@ def blocks(count, levels):
     return around(levels, block, named(count))
 
 
-def branches(count):
-    """Methods that are declared in both branches, and a call of each."""
-    declared = each(mixed(count), lambda it: method(it, 1, b""))
-    return block(declared) + package(b"\xa1", declared) + main_method(each(mixed(count), lambda it: it + b"\x01"))
-
-
-def devices_in_blocks(count):
-    """Devices with a method and a name, each in an If of its own, and a call of each method."""
-    inside = method(NEAR, 1, b"") + LEAF_NAME
-    calls = each(mixed(count), lambda it: b"\\\x2e" + it + NEAR + b"\x01")
-    return each(mixed(count), lambda it: block(device(inside, it))) + main_method(calls)
-
-
-def maybes(count, depth):
-    """Uses of a name at the root in a method of a scope of so many segments, in each of which it may stand too."""
-    return LEAF_NAME + around(depth, lambda code: device(block(LEAF_NAME) + code, NEAR), main_method(LEAF * count))
-
-
 def names_outside(count, depth):
     """A name at the root, as so many terms of a deep scope."""
     return LEAF_NAME + within(depth, LEAF * count)
@@ -257,37 +220,12 @@ def names_outside(count, depth):
 # ---- much of the same
 
 
-def tiny_methods(count):
-    return methods(count, b"")
-
-
 def many_methods(count):
     return each(count, lambda name: method(name, 2, bytes.fromhex("7068607261696aa460")))
 
 
 def buffer(size):
     return name(b"BUF_", package(b"\x11", b"\x0e" + bytes(8) + b"\xff" * (size - HEADER_BYTES - 32)))
-
-
-def aliases(count):
-    """A chain of Aliases of a method, and calls by the first thousand of them."""
-    calls = each(mixed(1000), lambda it: it + b"\x60")
-    return method(segment(0), 1, b"") + alias_chain(count) + main_method(calls)
-
-
-def long_names(size):
-    path = b"\x5c\x2f\xff" + each(SEGMENTS)
-    return name(path) + main_method(path * ((size - 2 * len(path) - 64) // len(path)))
-
-
-def given(count):
-    """As many uses of names as lines that give them counts."""
-    return {**tables(main_method(uses(count))), GIVEN: each(mixed(count), lambda it: b"\\%s 0\n" % it)}
-
-
-def given_again(count):
-    lines = (b"\\AAAA %d\n" % (number % 8) for number in range(count))
-    return {**tables(main_method(SEVEN)), GIVEN: b"".join(lines)}
 
 
 # ---- many files
@@ -313,16 +251,13 @@ def calling_tables(count, size, arguments, told=None):
     return tables(*codes)
 
 
-def madt(size):
-    records = b"\xff\x02" * ((size - HEADER_BYTES - 8) // 2)
-    return {**tables(b""), "apic.dat": table(b"APIC", bytes(8) + records)}
+ADDRESS, LED = 0x1000, ["facp.dat", "dsdt.dat"]
 
 
-ADDRESS = 0x1000
-
-
-def led(names, width, entries):
-    """A root pointer, a list of entries of so many bytes each, a FADT, a DSDT and SSDTs of these names, with a map."""
+def led(names, width, more):
+    """A root pointer, a list of entries of so many bytes each, a FADT, a DSDT and SSDTs of these names, with a map. The list
+    has the FADT, each SSDT, and the last of them so many times more."""
+    entries = names[2:3] + names[4:] + names[-1:] * more
     places = {it: ADDRESS * (number + 1) for number, it in enumerate(names)}
     address = {it: place.to_bytes(width, "little") for it, place in places.items()}
     root = bytearray(b"RSD PTR \0BENCH " + (b"\x02" + bytes(4) if width == 8 else b"\0" + address[names[1]]))
@@ -341,14 +276,7 @@ def led(names, width, entries):
 
 def listed(entries):
     """Five hundred SSDTs with addresses, and an XSDT that lists so many, the last of them again and again."""
-    names = ["rsdp.dat", "xsdt.dat", "facp.dat", "dsdt.dat", *(f"ssdt{number}.dat" for number in range(500))]
-    return led(names, 8, names[2:3] + names[4:] + names[-1:] * (entries - 501))
-
-
-def named_entries(entries):
-    """An RSDT that lists a file again and again, each byte of whose long name is four in the text."""
-    names = ["rsdp.dat", "rsdt.dat", "facp.dat", "dsdt.dat", "\x01" * 255]
-    return led(names, 4, names[2:3] + names[4:] * (entries - 1))
+    return led(["rsdp.dat", "xsdt.dat", *LED, *(f"ssdt{number}.dat" for number in range(500))], 8, entries - 501)
 
 
 # ---- all of them
@@ -403,10 +331,20 @@ DEEP_SETS = (
         "deep-scopes-upward", 2_000, "terms", 10_000,
         lambda count, depth: device(b"") + within(depth, each(count, lambda it: scope(b"DEV0", name(it)))),
     ),
-    ("deep-aliases-upward", 2_000, "names", 10_000, deep_aliases_upward),
-    ("deep-aliases-halfway", 2_000, "names", 10_000, lambda count, depth: deep_aliases_upward(count, depth, 2)),
-    ("deep-aliases-low", 2_000, "names", 10_000, lambda count, depth: deep_aliases_upward(count, depth, 3)),
-    ("deep-unsettled", 2_000, "names", 10_000, deep_unsettled),
+    # Aliases there of a name at the root, or of one that stands a half or a third of the way down
+    *(
+        (
+            f"deep-aliases-{where}", 2_000, "names", 10_000,
+            lambda count, depth, cut=cut: within(cut(depth), LEAF_NAME + within(depth - cut(depth), each(count, alias))),
+        )
+        for where, cut in (("upward", lambda _: 0), ("halfway", lambda depth: depth // 2), ("low", lambda depth: depth // 3))
+    ),
+    # Names below paths that nothing but an External's path has, each before an Alias of a name at the root
+    (
+        "deep-unsettled", 2_000, "names", 10_000,
+        lambda count, depth: LEAF_NAME + each(count, lambda it: b"\x15\x5c\x2f\x03X" + it[1:] + b"YYYYZZZZ\0\0")
+        + within(depth, each(count, lambda it: name(b"\x5c\x2eX" + it[1:] + b"WWWW") + alias(it))),
+    ),
     # Devices, each with an Alias of a name at the root
     (
         "deep-devices-aliases", 2_000, "devices", 10_000,
@@ -419,7 +357,11 @@ DEEP_SETS = (
         + main_method(b"ALIA" * count),
     ),
     ("deep-methods", 2_000, "methods", 10_000, deep_methods),
-    ("deep-local-uses", 20_000, "names", 10_000, deep_local_uses),
+    # Uses of the last of a thousand names that the method declares beside itself
+    (
+        "deep-local-uses", 20_000, "names", 10_000,
+        lambda count, depth: deep_body(depth, each(999, lambda it: name(b"^" + it)) + name(b"^NEAR") + b"^NEAR" * count),
+    ),
     ("deep-root-uses", 100_000, "names", 10_000, deep_root_uses),
     *((*row, lambda count, depth, make=make: within(depth, make(count))) for *row, make in DEEP_TERMS),
     *((*row, lambda count, depth, make=make: deep_body(depth, *make(count))) for *row, make in DEEP_BODIES),
@@ -439,7 +381,11 @@ SHAPES = (
     one("locals", 1_000_000, "names", locals_of),
     one("package", 1_000_000, "names", lambda count: name(b"PKG_", package(b"\x12", b"\0" + uses(count)))),
     one("package-body", 1_000_000, "names", lambda count: main_method(package(b"\x12", b"\0" + uses(count)))),
-    one("aliases", 1_000_000, "names", aliases),
+    # A chain of Aliases of a method, and calls by the first thousand of them
+    one(
+        "aliases", 1_000_000, "names",
+        lambda count: method(segment(0), 1, b"") + alias_chain(count) + main_method(each(mixed(1000), lambda it: it + b"\x60")),
+    ),
     one(
         "external", 1_000_000, "terms",
         lambda count: b"".join(b"\x15AAAA\x08" + bytes([it % 8]) for it in range(count)) + main_method(SEVEN),
@@ -450,9 +396,25 @@ SHAPES = (
         lambda count: each(count, lambda it: b"\x15" + it + b"\x08\0") + main_method(uses(count)),
     ),
     *both("blocks", 200_000, "names", 500, blocks, any_run=True),
-    one("branches", 200_000, "methods", branches, any_run=True),
-    one("devices-in-blocks", 200_000, "devices", devices_in_blocks, any_run=True),
-    *both("maybes", 100_000, "names", 500, maybes, any_run=True),
+    # Methods that are declared in both branches, and a call of each
+    one(
+        "branches", 200_000, "methods",
+        lambda count: block(each(mixed(count), lambda it: method(it, 1, b"")))
+        + package(b"\xa1", each(mixed(count), lambda it: method(it, 1, b"")))
+        + main_method(each(mixed(count), lambda it: it + b"\x01")), any_run=True,
+    ),
+    # Devices with a method and a name, each in an If of its own, and a call of each method
+    one(
+        "devices-in-blocks", 200_000, "devices",
+        lambda count: each(mixed(count), lambda it: block(device(method(NEAR, 1, b"") + LEAF_NAME, it)))
+        + main_method(each(mixed(count), lambda it: b"\\\x2e" + it + NEAR + b"\x01")), any_run=True,
+    ),
+    # Uses of a name at the root in a method of a scope of so many segments, in each of which it may stand too
+    *both(
+        "maybes", 100_000, "names", 500,
+        lambda count, depth: LEAF_NAME
+        + around(depth, lambda code: device(block(LEAF_NAME) + code, NEAR), main_method(LEAF * count)), any_run=True,
+    ),
     one("names-outside", 8_000, "names", lambda count: names_outside(count, DEEPEST), any_run=True),
     # Regions in a deep scope, whose offset and length are a name at the root
     one("regions-outside", 1_000, "regions", lambda count: LEAF_NAME + regions(count, DEEPEST, LEAF), any_run=True),
@@ -464,16 +426,26 @@ SHAPES = (
     ),
     # Two tables that declare one name again and again
     Shape("again", 2_000_000, "names", lambda count: tables(*[LEAF_NAME * (count // 2)] * 2), any_run=True),
-    Shape("given", 1_000_000, "lines", given, given=True),
-    Shape("given-again", 2_000_000, "lines", given_again, given=True),
-    one("long-names", MOST_AML, "bytes", long_names),
+    # As many uses of names as lines that give them counts, and many lines for one name
+    Shape(
+        "given", 1_000_000, "lines", given=True,
+        make=lambda count: {**tables(main_method(uses(count))), GIVEN: each(mixed(count), lambda it: b"\\%s 0\n" % it)},
+    ),
+    Shape(
+        "given-again", 2_000_000, "lines", given=True,
+        make=lambda count: {**tables(main_method(SEVEN)), GIVEN: b"".join(b"\\AAAA %d\n" % (it % 8) for it in range(count))},
+    ),
+    one(
+        "long-names", MOST_AML, "bytes",
+        lambda size: name(LONG_PATH) + main_method(LONG_PATH * ((size - 2 * len(LONG_PATH) - 64) // len(LONG_PATH))),
+    ),
     one("carets", MOST_AML, "bytes", lambda size: main_method(b"\x71" + b"^" * (size - 64) + b"AAAA")),
     one("nots", 32_000, "methods", lambda count: nots(count, 500)),
     one("nots-deep", 508, "levels", lambda count: nots(32_000, count)),
     one("packages-deep", 508, "levels", lambda count: packages(4_000, count)),
     one("indented", 200_000, "terms", lambda count: indented(count, 508)),
     one("indented-deep", 508, "levels", lambda count: indented(200_000, count)),
-    one("tiny", 1_048_576, "methods", tiny_methods),
+    one("tiny", 1_048_576, "methods", lambda count: methods(count, b"")),
     one("raw", 1_048_576, "methods", lambda count: methods(count, NOTHING)),
     one("raw-body", MOST_BYTES, "bytes", lambda size: main_method(NOTHING + b"\xff" * (size - 68))),
     one("buffer", MOST_BYTES, "bytes", buffer),
@@ -483,7 +455,11 @@ SHAPES = (
     Shape("files", 512, "files", lambda count: sparse_files(count, 1 << 20)),
     Shape("files-large", 512, "files", lambda count: sparse_files(count, MOST_BYTES), large=True),
     Shape("tables", 512, "files", lambda count: calling_tables(count, 500, 1)),
-    Shape("madt", MOST_BYTES, "bytes", madt),
+    Shape(
+        "madt", MOST_BYTES, "bytes",
+        lambda size: {**tables(b""), "apic.dat": table(b"APIC", bytes(8) + b"\xff\x02" * ((size - HEADER_BYTES - 8) // 2))},
+    ),
     Shape("listed", 2_000_000, "entries", listed),
-    Shape("named-entries", 262_144, "entries", named_entries),
+    # An RSDT that lists a file again and again, each byte of whose long name is four in the text
+    Shape("named-entries", 262_144, "entries", lambda count: led(["rsdp.dat", "rsdt.dat", *LED, "\x01" * 255], 4, count - 2)),
 )

@@ -24,7 +24,7 @@ SETS = {
     "packages": lambda: shapes.packages(50, 508),
     "devices": lambda: shapes.nested(510, 1),
     "blocks": lambda: shapes.blocks(2_000, 508),
-    "methods": lambda: shapes.tiny_methods(20_000),
+    "methods": lambda: shapes.methods(20_000, b""),
     "buffer": lambda: shapes.buffer(1 << 20),
 }
 WANTS = refused("NoMemory"), refused("NoThread")
