@@ -19,7 +19,6 @@ import shutil
 import subprocess
 
 from tally import DEMO, TOP, Tally, run_script, timed, written
-import board
 import splice
 from acpidis_tools.asl.blocks import Block, Reader
 from acpidis_tools.asl.names import said_by
@@ -28,7 +27,7 @@ from trying import PROGRAM, asked
 from dumps import dumps_of
 from folders import read_folder
 from hostile import mutated
-from made_aml import SETS, device, method, scope, table, tables
+from made_aml import SETS, VERSIONS, device, method, scope, table, tables
 from made_plain import PlainMaker
 from made_sets import sealed
 from printing import file_text
@@ -39,7 +38,7 @@ ASL, SPLICE, UNPACK, SHOW = "asl.py", "splice.py", "unpack.py", "show.py"
 IASL, ACPIXTRACT = shutil.which("iasl"), shutil.which("acpixtract")
 HEADER, MOST_GROWN, GROWN = 36, 70_000, 150
 NOOP = b"\xA3"
-SAMPLES = {"pages": PAGES_FILES, "hostile": HOSTILE_FILES, "runs": RUNS_FILES, **board.VERSIONS}
+SAMPLES = {"pages": PAGES_FILES, "hostile": HOSTILE_FILES, "runs": RUNS_FILES, **VERSIONS}
 
 
 class Checks(Tally):
@@ -265,7 +264,7 @@ def added(checks, name, dumps, options):
 
 def check_edit(checks):
     """Whole tables to be changed are compiled, but with a name that nothing declares."""
-    checks.text("edit.text", listed(written(checks.room / "edit", board.VERSIONS["first"])))
+    checks.text("edit.text", listed(written(checks.room / "edit", VERSIONS["first"])))
     checks.says("--edit", [ASL, "--edit", "edit.text", "edited"], 0)
     what = "asl: 'edited/dsdt.dat.asl' is there, and may have been changed: remove it, or name another folder\n"
     checks.says("--edit once more", [ASL, "--edit", "edit.text", "edited"], 2, what)
@@ -498,7 +497,7 @@ def check_chain(checks):
 
 def check_show(checks):
     """What is declared at a path, or at paths that end so."""
-    place = written(checks.room / "show", board.VERSIONS["first"])
+    place = written(checks.room / "show", VERSIONS["first"])
     text = checks.text("show.text", listed(place))
     shown = re.findall(r"^== (\S+)\n((?:(?!==).*\n)+)", (TOP / "tests/shown.txt").read_text(), re.M)
     for path, wanted in shown:
@@ -542,7 +541,7 @@ def main():
             check(checks)
         check_sets(checks, words.sets, words.folders)
         if IASL:
-            for version, files in board.VERSIONS.items():
+            for version, files in VERSIONS.items():
                 added(checks, version, dumps_of(files), ["--any-run"])
             added(checks, "of the demo", read_folder(DEMO), [])
             added(checks, "of Externals", dumps_of(tables(*SETS["externals"])), [])

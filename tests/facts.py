@@ -23,9 +23,8 @@ import sys
 from tally import TOP, Tally, first_difference, module_of, on_full_disk, run_script, written
 from acpidis_tools import command
 from trying import asked
-from board import VERSIONS
 from loading import path_text
-from made_aml import buffer, device, region, table, tables
+from made_aml import VERSIONS, buffer, device, region, table, tables
 from running import REFUSED, Options, Outcome, run_folder
 from acpidis_tools.schema import COLUMNS, REFERENCES
 from telling import Teller, samples, small, teller_of

@@ -90,3 +90,13 @@ SETS = {
     name: list(map(bytes_of, re.findall(r"^[DS]SDT: ((?:.*\n)(?:  .*\n)*)", part, re.M)))
     for name, part in re.findall(r"^== (.*)\n((?:(?!==).*\n)*)", (TOP / "tests/sets.txt").read_text(), re.M)
 }
+# A made-up board, for docs/facts.md and the tests of facts, in two versions of its firmware.
+FIRST, SECOND, DEBUG = SETS["board"]
+# The files of both by the names of their folders. The second has no SSDT, and another byte in a table without AML.
+VERSIONS = {
+    "first": {
+        "dsdt.dat": table(b"DSDT", FIRST, b"BOARD"), "ssdt1.dat": table(b"SSDT", DEBUG, b"DbgPort"),
+        "dmar.dat": table(b"DMAR", b"\x26\0", b"BOARD"),
+    },
+    "second": {"dsdt.dat": table(b"DSDT", SECOND, b"BOARD"), "dmar.dat": table(b"DMAR", b"\x26\1", b"BOARD")},
+}

@@ -6,7 +6,7 @@ there.
 
 A block that begins with ```console has commands behind `$ `, more lines of theirs behind `> `, and below what they
 print. They run in a folder with `mine`, the set of docs/listing.md, whose text is the first block of that page, with
-`boards`, the sets of tests/board.py, and with `examples`; `./acpidis` is the launcher. Then they run once more as the
+`boards`, the sets of tests/made_aml.py, and with `examples`; `./acpidis` is the launcher. Then they run once more as the
 commands of an installed program, `acpidis-page` for `examples/page.py`. README and docs have no more pages and words
 than they may. What pages quote, link to or name stands there: sources, headings, contracts, clauses, wrong bodies.
 The manual page is looked through by mandoc and groff, each where it is installed; options and words are compared with
@@ -24,8 +24,7 @@ import sys
 import tempfile
 
 from tally import TOP, Tally, written
-from board import VERSIONS
-from made_aml import SETS, tables
+from made_aml import SETS, VERSIONS, tables
 
 LISTING = "docs/listing.md"
 PAGES = ["listing", "tables", "refusals", "any_run", "changing", "many", "facts"]
