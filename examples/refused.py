@@ -166,11 +166,6 @@ def bytes_at(code, at):
     return shown + (" .." if len(code) > at + SHOWN_BYTES else "") if shown else "the table's end"
 
 
-def around(reader):
-    """A line for each of the terms that the reader is in, the inner first."""
-    return [f"  in {aml.text(term)}, offset {term.at}" for term in reversed(reader.open[-MOST_SHOWN:])]
-
-
 def counted(count):
     return f"{count} argument" if count == 1 else f"{count} arguments"
 
@@ -193,7 +188,9 @@ def say_code(found, refusal):
     if reader.stopped != refusal.at:
         yield f"  the reader of this script came to {reader.stopped} only"
         return
-    blocks, before = around(reader), reader.before
+    # A line for each of the terms that the reader is in, the inner first
+    blocks = [f"  in {aml.text(term)}, offset {term.at}" for term in reversed(reader.open[-MOST_SHOWN:])]
+    before = reader.before
     # The last names of the term in front, and of the one that the reader is in
     front = before or next(reversed(reader.open), None)
     uses = [use for use in reader.uses[-MOST_SHOWN:] if front is not None and use.term.at >= front.at]

@@ -72,13 +72,10 @@ def dumped(text):
             tables[-1][1].extend(bytes.fromhex(row[2]))
         elif not line.strip("> \t\r"):
             title = None
-    return [Table(whole(number, name, bytes(data)), name, address) for (number, name, address), data in tables]
-
-
-def whole(number, name, data):
-    if len(data) < 8 or length_of(data) > len(data):
-        raise Refused(f"line {number}: {name} has {len(data)} bytes of {length_of(data) if len(data) > 7 else 'its header'}")
-    return data
+    for (number, name, _), data in tables:
+        if len(data) < 8 or length_of(data) > len(data):
+            raise Refused(f"line {number}: {name} has {len(data)} bytes of {length_of(data) if len(data) > 7 else 'its header'}")
+    return [Table(bytes(data), name, address) for (_, name, address), data in tables]
 
 
 def behind_each_other(data):

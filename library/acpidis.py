@@ -209,12 +209,6 @@ class Open:
             yield Method(texts[at : at + path], flags & 7, fault, tables[table], HEADER + start, length, body)
 
 
-def read_file(file: pathlib.Path) -> bytes:
-    """The first bytes of a file, one more than a dump may have."""
-    with file.open("rb") as opened:
-        return opened.read(MOST_BYTES + 1)
-
-
 def read_folder(folder: pathlib.Path) -> Dict[str, bytes]:
     """The files of a folder, by their names."""
     try:
@@ -229,7 +223,8 @@ def read_folder(folder: pathlib.Path) -> Dict[str, bytes]:
     files = {}
     for name in sorted(names, key=os.fsencode):
         try:
-            files[name] = read_file(folder / name)
+            with open(folder / name, "rb") as opened:
+                files[name] = opened.read(MOST_BYTES + 1)
         except OSError:
             raise Refused(f'cannot read "{name}"') from None
     return files

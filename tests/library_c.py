@@ -142,12 +142,6 @@ def row_text(row):
 METHOD = re.compile(r"^( *)Method \(.*\) \{\n((?:\1  .*\n)*)\1\}$", re.MULTILINE)
 
 
-def bodies_in(text):
-    """The lines of the bodies of a text's methods, without their indent, or those of their bytes."""
-    for told in METHOD.finditer(text):
-        yield re.sub(f"^{told[1]}  ", "", told[2], flags=re.MULTILINE)
-
-
 def is_told(listing, files):
     """Whether the values of a listing stand in its text: rows, methods, faults and bodies, a raw one by its bytes."""
     lines = listing.text.split("\n")
@@ -158,7 +152,8 @@ def is_told(listing, files):
         return "methods"
     if [(method.path, method.fault) for method in listing.methods if method.fault] != listing.faults:
         return "faults"
-    told = list(bodies_in(listing.text))
+    # The lines of the bodies, without their indent, or those of their bytes
+    told = [re.sub(f"^{it[1]}  ", "", it[2], flags=re.MULTILINE) for it in METHOD.finditer(listing.text)]
     for method, lines in zip(listing.methods, told):
         code = files[method.table][method.offset : method.offset + method.length]
         raw = "Raw {" + ", ".join(f"{byte:02X}" for byte in code) + "}\n"

@@ -391,15 +391,13 @@ def pieces(part):
         yield from pieces(part.parts[0])
     else:
         yield part.word
-        yield from grouped(" (", method_parts(part) if part.word == "Method" else part.parts, ")")
+        is_method = part.word == "Method"
+        shown = [*part.parts[:1], *(str(flags & 7) for _, flags in part.parts[1:])] if is_method else part.parts
+        yield from grouped(" (", shown, ")")
         if isinstance(part.tail, list) and part.word in ("Package", "VarPackage"):
             yield from grouped(" {", part.tail, "}")
         elif part.word == "Buffer" and part.tail is not None:
             yield f" {{{part.tail} bytes}}"
-
-
-def method_parts(term):
-    return [*term.parts[:1], *(str(flags & 7) for _, flags in term.parts[1:])]
 
 
 def grouped(left, parts, right):

@@ -7,7 +7,7 @@ import re
 from collections import defaultdict
 from collections.abc import Iterator
 
-from acpidis_tools.comparison import Said, text_of, texts_of
+from acpidis_tools.comparison import text_of, texts_of
 from acpidis_tools.decoding import Decoder, flag_words, hardware_name
 from acpidis_tools.errors import Fault
 from acpidis_tools.listing import HEADER, Block, Dump, Line, Listing, Path, path_of, path_text
@@ -94,10 +94,6 @@ def number_of(value: str, base: int) -> int | None:
     return small(int(value, base)) if re.fullmatch(digits, value) else None
 
 
-def sum_of(said: Said) -> str:
-    return hashlib.sha256("\n".join(text_of(said)).encode()).hexdigest()[:16]
-
-
 class Collector:
     """Gathers the rows of one listing's code. Each row counts its number from 1, and has 1 for its code."""
 
@@ -154,7 +150,8 @@ class Collector:
             line.number: block.file[1:-1] for block in self.listing.blocks for line in block.lines
             if line.declared is not None
         }
-        sums = {path: sum_of(said) for path, said in texts_of(self.names, self.listing).items()}
+        texts = {path: "\n".join(text_of(said)).encode() for path, said in texts_of(self.names, self.listing).items()}
+        sums = {path: hashlib.sha256(text).hexdigest()[:16] for path, text in texts.items()}
         targets = []
         for row in self.listing.rows:
             kind, _, more = row.kind.partition(" ")

@@ -209,7 +209,8 @@ class Decoder:
         return notes
 
     def name_notes(self, line: Line, has_identifier: bool) -> list[str]:
-        name = declared_name(line)
+        # The last segment of the name that a line outside the bodies declares
+        name = line.words[line.declared][-4:] if line.declared is not None and not line.method else ""
         if name == "_STA" or line.term == "Return" and line.method and line.method[-1] == "_STA":
             value = self.argument(line, 1 if name else 0) if line.term != "Method" else None
             if value and value.number is not None:
@@ -227,11 +228,6 @@ def hardware_name(line: Line) -> str | None:
     else:
         name = line.words[1][-4:] if line.term == "Name" and len(line.words) > 1 else ""
     return name if name in HARDWARE_NAMES else None
-
-
-def declared_name(line: Line) -> str:
-    """The last segment of the name that a line outside the bodies declares."""
-    return line.words[line.declared][-4:] if line.declared is not None and not line.method else ""
 
 
 def flag_words(terms: list[Term]) -> tuple[str, str, str]:
