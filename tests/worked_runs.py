@@ -16,7 +16,7 @@ import tempfile
 
 from tally import TOP, Tally, first_difference
 from trying import PROGRAM, asked
-from cases import Rows, options_of
+from cases import Rows
 from compare import run_program
 from folders import MAP_NAME
 from loading import path_text
@@ -41,15 +41,14 @@ class ProgramRows(Rows):
         super().__init__()
         self.program = program
 
-    def row_run(self, words, _):
+    def run(self, options):
         with tempfile.TemporaryDirectory() as name:
             folder, counts = pathlib.Path(name, "tables"), pathlib.Path(name, "counts")
             folder.mkdir()
             write_set(folder, self.dumps)
             counts.write_text("".join(f"{path_text(path)} {count}\n" for path, count in self.given))
-            options = dataclasses.replace(options_of(words), externals=counts if self.given else None)
-            status, text, errors = run_program(self.program, folder, options)
-        return [f"status {status}", *text.splitlines(), *errors.splitlines()]
+            options = dataclasses.replace(options, externals=counts if self.given else None)
+            return run_program(self.program, folder, options)
 
 
 def examples(file):

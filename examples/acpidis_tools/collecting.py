@@ -15,7 +15,7 @@ from acpidis_tools.names import FIELD_LISTS, PREDEFINED, Meaning, Names, Sort, n
 from acpidis_tools.resources import Descriptor
 from acpidis_tools.schema import COLUMNS
 from acpidis_tools.standard import DEVICE_NAMES, eisa_number, space_name
-from acpidis_tools.terms import Place, Term, is_written, places
+from acpidis_tools.terms import OBJECT_OPERATORS, Place, Term, places
 
 # SQLite's integers have 64 bits, one of which is the sign.
 TOO_LARGE = 1 << 63
@@ -303,8 +303,10 @@ class Collector:
             return "called" if is_method else "read"
         if place.kind == "A" and place.within and place.within.word != "Connection":
             return "called" if is_method else "passed"
-        if place.kind == "S":
-            return "written" if is_written(place) else "passed"
+        if place.kind == "S" and place.within:
+            # A target of its operator, or an object that is handed to it
+            is_object = place.within.word in OBJECT_OPERATORS or (place.within.word, place.number) == ("CondRefOf", 0)
+            return "passed" if is_object else "written"
         return "passed" if place.kind == "D" else "named"
 
     def add_field(self, line: Line) -> None:

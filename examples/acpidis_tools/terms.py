@@ -38,11 +38,6 @@ class Term:
     def argument(self, place: int) -> Term | None:
         return self.arguments[place] if place < len(self.arguments) else None
 
-    def inner(self) -> list[Term]:
-        """The terms in it, those in front first."""
-        elements = self.braced if isinstance(self.braced, list) else []
-        return [term for term in (*self.arguments, *elements) if term is not None]
-
 
 class Reader:
     """Makes the term of a line, and the terms behind it as its siblings: in `FLD0, 8` stand two."""
@@ -123,10 +118,3 @@ def places(terms: list[Term]) -> Iterator[tuple[Term, Place]]:
         ]
         parts += [(part, Place(term, "D", 0)) for part in term.braced] if isinstance(term.braced, list) else []
         waiting += reversed(parts)
-
-
-def is_written(place: Place) -> bool:
-    """Whether what stands there is a target of its operator, and not an object that is handed to it."""
-    if place.kind != "S" or place.within is None:
-        return False
-    return place.within.word not in OBJECT_OPERATORS and (place.within.word, place.number) != ("CondRefOf", 0)

@@ -202,6 +202,10 @@ OF_NAME = {
 }
 
 
+# Rows of a set
+OF_SETS = set("set dump raw cut put add order orders run".split())
+
+
 class Rows:
     """The answers to rows: a set and a namespace grow until the next begins."""
 
@@ -216,7 +220,7 @@ class Rows:
         head, _, rest = row.partition(":")
         kind, _, words = head.partition(" ")
         try:
-            return list(self.act(kind, words, bytes_of(rest)) or [])
+            return self.act(kind, words, bytes_of(rest)) or []
         except Refused as fault:
             return [str(fault)]
         except LineFault as fault:
@@ -232,92 +236,69 @@ class Rows:
         if kind in OF_NAME:
             scope, name = words.split()
             return OF_NAME[kind](self.names, path_of(scope), name_of(name), self.declared)
-        act = getattr(self, "row_" + kind, None)
-        if not act:
-            raise ValueError(f"no such kind of row: {kind}")
-        return act(words, data)
+        return (self.of_sets if kind in OF_SETS else self.of_namespaces)(kind, words, data)
 
-    def row_method(self, words, code):
-        path = path_of(words)
-        return text_of(Reader(code, self.names.arity(path), path))
-
-    # sets
-
-    def row_set(self, _, __):
-        self.dumps, self.given = [], []
-
-    def row_dump(self, words, content):
-        name, signature = words.split(" ")
-        self.row_raw(name, sealed(signature.encode() + bytes(4) + HEADER + content))
-
-    def row_raw(self, words, data):
-        name, _, address = words.partition("@")
-        self.dumps.append(Dump(name, int(address, 16) if address else None, data))
+    def of_sets(self, kind, words, data):
+        last = self.dumps[-1].data if self.dumps else b""
+        match kind:
+            case "set":
+                self.dumps, self.given = [], []
+            case "dump":
+                name, signature = words.split(" ")
+                self.of_sets("raw", name, sealed(signature.encode() + bytes(4) + HEADER + data))
+            case "raw":
+                name, _, address = words.partition("@")
+                self.dumps.append(Dump(name, int(address, 16) if address else None, data))
+            case "cut":
+                self.change(last[:int(words)])
+            case "put":
+                self.change(last[:int(words)] + data + last[int(words) + 1:])
+            case "add":
+                self.change(last + data)
+            case "order":
+                return [" ".join(map(str, order_of(self.dumps, options_of(words).any_sum)))]
+            case "orders":
+                lines = lambda left: self.change(last[:left]) or [f"{left} bytes:", *self.answer("order")]
+                return [line for left in reversed(range(int(words))) for line in lines(left)]
+            case "run":
+                status, out, err = self.run(options_of(words))
+                return [f"status {status}", *out.splitlines(), *err.splitlines()]
 
     def change(self, data):
         self.dumps[-1] = self.dumps[-1]._replace(data=data)
 
-    def row_cut(self, words, _):
-        self.change(self.dumps[-1].data[:int(words)])
+    def run(self, options):
+        return run(self.dumps, options, self.given)
 
-    def row_put(self, words, byte):
-        data = self.dumps[-1].data
-        self.change(data[:int(words)] + byte + data[int(words) + 1:])
-
-    def row_add(self, _, more):
-        self.change(self.dumps[-1].data + more)
-
-    def row_order(self, words, _):
-        return [" ".join(map(str, order_of(self.dumps, options_of(words).any_sum)))]
-
-    def row_orders(self, words, _):
-        for left in reversed(range(int(words))):
-            self.row_cut(left, b"")
-            yield from [f"{left} bytes:", *self.answer("order")]
-
-    def row_run(self, words, _):
-        status, out, err = run(self.dumps, options_of(words), self.given)
-        return [f"status {status}", *out.splitlines(), *err.splitlines()]
-
-    # namespaces
-
-    def row_space(self, _, __):
-        self.names, self.declared = RunNamespace(), set()
-
-    def row_declare(self, words, _):
-        path = tuple(declaration_of(words)[0].segs)
-        if path in self.names.declarations:
-            raise Refused("Duplicate", path=path_text(path))
-        self.row_again(words, _)
-
-    def row_again(self, words, _, is_sure=True):
-        self.names.declare_so((), *declaration_of(words), is_sure)
-
-    def row_maybe(self, words, _):
-        self.row_again(words, _, False)
-
-    def row_external(self, words, _):
-        self.names.add_external(*count_of(words))
-
-    def row_given(self, words, _):
-        """A count for a path that no table says anything of: in the namespace, and in the runs over the set."""
-        self.names.give(*count_of(words))
-        self.given.append(count_of(words))
-
-    def row_local(self, words, _):
-        self.declared.add(path_of(words))
-
-    def row_locals(self, _, __):
-        return ["some" if self.declared else "none"]
-
-    def row_is_local(self, words, _):
-        return ["local" if path_of(words) in self.declared else "not local"]
-
-    def row_rows(self, _, __):
-        return [row_text(*row) for row in self.names.rows()]
-
-    def row_row_at(self, words, _):
-        return or_none(dict(enumerate(self.row_rows(words, _))).get(int(words)))
+    def of_namespaces(self, kind, words, data):
+        rows = [row_text(*row) for row in self.names.rows()]
+        match kind:
+            case "method":
+                return text_of(Reader(data, self.names.arity(path_of(words)), path_of(words)))
+            case "space":
+                self.names, self.declared = RunNamespace(), set()
+            case "declare" | "again" | "maybe":
+                name, declared = declaration_of(words)
+                if kind == "declare" and tuple(name.segs) in self.names.declarations:
+                    raise Refused("Duplicate", path=path_text(tuple(name.segs)))
+                self.names.declare_so((), name, declared, kind != "maybe")
+            case "external":
+                self.names.add_external(*count_of(words))
+            case "given":  # in the namespace, and in the runs over the set
+                self.names.give(*count_of(words))
+                self.given.append(count_of(words))
+            case "local":
+                self.declared.add(path_of(words))
+            case "locals":
+                return ["some" if self.declared else "none"]
+            case "is_local":
+                return ["local" if path_of(words) in self.declared else "not local"]
+            case "rows":
+                return rows
+            case "row_at":
+                return or_none(dict(enumerate(rows)).get(int(words)))
+            case _:
+                raise ValueError(f"no such kind of row: {kind}")
 
 
 def main():
