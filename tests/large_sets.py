@@ -17,7 +17,7 @@ import itertools
 import os
 import pathlib
 import tempfile
-from typing import NamedTuple
+from collections import namedtuple
 
 from tally import Tally, written
 from trying import PROGRAM, asked
@@ -47,13 +47,8 @@ MIXED, OTHERS, STEP = 20_000, 500, 7_919
 CHAINED, STRIDE, INNER = 1_000, 50, 100
 
 
-class Trial(NamedTuple):
-    """A set, the options of a run over it, and how that has to end; the independent reading says it where nothing stands."""
-
-    name: str
-    files: dict
-    options: Options = LIST
-    wanted: Outcome | None = None
+# A set, the options of a run over it, and how that has to end; the independent reading says it where nothing stands
+Trial = namedtuple("Trial", "name files options wanted", defaults=[LIST, None])
 
 
 def difference_of(program, trial):

@@ -3,7 +3,7 @@
 from __future__ import annotations
 
 import re
-from collections import defaultdict
+from collections import defaultdict, namedtuple
 from typing import NamedTuple
 
 from acpidis_tools import objects
@@ -29,13 +29,8 @@ FIELD_BITS = {
 }
 
 
-class Unit(NamedTuple):
-    """A unit of a field list: the line of the list, its first bit and its width, and how it is accessed."""
-
-    head: Line
-    bit: int
-    width: int
-    access: str
+# A unit of a field list: the line of the list, its first bit and its width, and how it is accessed
+Unit = namedtuple("Unit", "head bit width access")
 
 
 class Template(NamedTuple):

@@ -4,6 +4,7 @@ definition blocks as words, each with its depth and the line that closes what it
 from __future__ import annotations
 
 import re
+from collections import namedtuple
 from dataclasses import dataclass, field
 
 SEGMENT = r"[A-Z_][A-Z0-9_]{3}"
@@ -106,12 +107,8 @@ class Row:
         return ", ".join(["maybe"] * self.is_maybe + [f"{self.times:,} times"] * (self.times > 1))
 
 
-@dataclass
-class Block:
-    """A definition block: its lines are those from its head to the line that closes it."""
-
-    file: str
-    lines: list[Line]
+# A definition block: its file, and the lines from its head to the one that closes it
+Block = namedtuple("Block", "file lines")
 
 
 @dataclass

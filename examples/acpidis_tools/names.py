@@ -2,7 +2,7 @@
 
 from __future__ import annotations
 
-from collections import defaultdict
+from collections import defaultdict, namedtuple
 from collections.abc import Container
 from enum import Enum
 from functools import lru_cache
@@ -73,14 +73,8 @@ def name_of(text: str) -> Name:
     return Name(text.startswith("\\"), ups, tuple(bare.split(".")) if bare else ROOT)
 
 
-class Open(NamedTuple):
-    """A block that is open: the line that ends it, where the terms inside it stand, and whether these are sure to."""
-
-    end: int
-    scope: Path
-    method: Optional[Path]
-    is_field_list: bool
-    is_sure: bool
+# A block that is open: the line that ends it, where the terms inside it stand, and whether these are sure to
+Open = namedtuple("Open", "end scope method is_field_list is_sure")
 
 
 class Names:

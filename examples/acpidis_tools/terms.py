@@ -3,8 +3,9 @@
 from __future__ import annotations
 
 import re
+from collections import namedtuple
 from collections.abc import Iterator
-from typing import NamedTuple, Optional
+from typing import Optional
 
 from acpidis_tools import aml
 from acpidis_tools.listing import Line
@@ -97,12 +98,8 @@ def terms_in(pieces: list[str]) -> list[Term]:
     return [term for term in reader.siblings if term is not None]
 
 
-class Place(NamedTuple):
-    """Where a term stands: in which operator or call, as its part of which kind, and whether that is the last one."""
-
-    within: Optional[Term]
-    kind: str
-    number: int
+# Where a term stands: in which operator or call, as its part of which kind, and which part that is
+Place = namedtuple("Place", "within kind number")
 
 
 def places(terms: list[Term]) -> Iterator[tuple[Term, Place]]:

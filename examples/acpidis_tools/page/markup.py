@@ -62,43 +62,35 @@ def dump_cells(dump: Dump) -> list[str]:
     return [dump.file[1:-1], form["signature"] or "RSD PTR ", *(text or "" for text in texts)]
 
 
-class TableWriter:
-    def __init__(self, sheet: Sheet):
-        listing = sheet.listing
-        self.files = {dump.file: dump.number for dump in listing.dumps}
-        self.blocks = {block.file: block.lines[0].number for block in listing.blocks if sheet.shows(block.lines[0].number)}
-        self.different = sheet.comparison.lines if sheet.comparison else set()
+def tables_html(sheet: Sheet) -> list[str]:
+    """The dumps as rows of a table, each with the lines below its own in another one."""
+    files = {dump.file: dump.number for dump in sheet.listing.dumps}
+    blocks = {block.file: block.lines[0].number for block in sheet.listing.blocks if sheet.shows(block.lines[0].number)}
+    different = sheet.comparison.lines if sheet.comparison else set()
+    mark = lambda number: classed("differs" if number in different else "")
 
-    def mark(self, number: int) -> str:
-        return "differs" if number in self.different else ""
+    def note(number: int, text: str) -> str:
+        form, shown = ADDRESS_OF_ENTRY.fullmatch(text), escape(text)
+        if form and form[2] in files:
+            shown = f"{escape(form[1])} <a href=#{files[form[2]]}>{escape(form[2])}</a>"
+        return f"<p id={number}{mark(number)}>{shown}</p>"
 
-    def note(self, number: int, text: str) -> str:
-        form = ADDRESS_OF_ENTRY.fullmatch(text)
-        shown = escape(text)
-        if form and form[2] in self.files:
-            shown = f"{escape(form[1])} <a href=#{self.files[form[2]]}>{escape(form[2])}</a>"
-        return f"<p id={number}{classed(self.mark(number))}>{shown}</p>"
-
-    def dump(self, dump: Dump) -> str:
+    def rows(dump: Dump) -> str:
         cells = [escape(cell) for cell in dump_cells(dump)]
-        if dump.file in self.blocks:
-            cells[0] = f"<a href=#{self.blocks[dump.file]}>{cells[0]}</a>"
+        if dump.file in blocks:
+            cells[0] = f"<a href=#{blocks[dump.file]}>{cells[0]}</a>"
         columns = "".join(f"<td>{cell}</td>" for cell in cells)
-        html = f"<tr id={dump.number}{classed(self.mark(dump.number))}><th>{dump.number}</th>{columns}</tr>\n"
+        html = f"<tr id={dump.number}{mark(dump.number)}><th>{dump.number}</th>{columns}</tr>\n"
         if dump.notes:
-            notes = "".join(self.note(number, text) for number, text in dump.notes)
-            is_open = " open" if any(number in self.different for number, _ in dump.notes) else ""
-            head = f"<summary>{counted(len(dump.notes), 'line')}</summary>"
-            html += f"<tr class=more><td></td><td colspan=7><details{is_open}>{head}{notes}</details></td></tr>\n"
+            is_open = " open" if any(number in different for number, _ in dump.notes) else ""
+            head = f"<details{is_open}><summary>{counted(len(dump.notes), 'line')}</summary>"
+            notes = "".join(note(number, text) for number, text in dump.notes)
+            html += f"<tr class=more><td></td><td colspan=7>{head}{notes}</details></td></tr>\n"
         return html
 
-
-def tables_html(sheet: Sheet) -> list[str]:
-    writer = TableWriter(sheet)
     heads = "".join(f"<th>{head}</th>" for head in HEADS)
-    rows = [writer.dump(dump) for dump in sheet.listing.dumps]
     head = f"<section id=tables><h2>Tables</h2>\n<div class=wide><table>\n<tr>{heads}</tr>\n"
-    return [head, *rows, "</table></div>\n</section>\n"]
+    return [head, *map(rows, sheet.listing.dumps), "</table></div>\n</section>\n"]
 
 
 def table_changes_html(sheet: Sheet) -> list[str]:
