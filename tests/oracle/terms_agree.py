@@ -230,51 +230,40 @@ def outcome_of(program, chance, codes):
         return run_program(program, folder, options) if program else run_folder(folder, options)
 
 
-class Comparison:
-    """Compares one made-up set after another. `wrong` counts those with something wrong, `silent` the last ones without
-    a count."""
-
-    def __init__(self, program):
-        self.program, self.passed, self.failed, self.wrong, self.silent = program, 0, 0, 0, 0
-
-    def compare(self, maker):
-        tables = maker.tables()
-        runs = runs_of(tables)
-        if len(runs) > MOST_RUNS:
-            return
-        questions = list(questions_of(maker.chance, runs))
-        outcome = outcome_of(self.program, maker.chance, [*map(code_of, tables), code_of(questions)])
-        try:
-            told = told_by(outcome, questions)
-            compared = [(run, it) for run in runs for it in told.compared(run, questions)] if told else []
-        except Wrong as wrong:
-            compared = [(None, str(wrong))]
-        self.silent = 0 if compared else self.silent + 1
-        self.count(tables, compared)
-
-    def count(self, tables, compared):
-        wrong = [(run, it) for run, it in compared if it]
-        self.passed += len(compared) - len(wrong)
-        self.failed += len(wrong)
-        self.wrong += bool(wrong)
-        for run, it in wrong[:1]:
-            stands = ", ".join(itertools.starmap(row_text, run.items())) or "nothing" if run is not None else ""
-            print(f"FAILED {' | '.join(map(text_of, tables))}: {it}" + (f" in the run with {stands}" if stands else ""))
+def compared(program, chance, tables):
+    """Of each count in a run, with that run, None where it is told so, else what is wrong. None where there are too many runs."""
+    runs = runs_of(tables)
+    if len(runs) > MOST_RUNS:
+        return None
+    questions = list(questions_of(chance, runs))
+    outcome = outcome_of(program, chance, [*map(code_of, tables), code_of(questions)])
+    try:
+        told = told_by(outcome, questions)
+        return [(run, it) for run in runs for it in told.compared(run, questions)] if told else []
+    except Wrong as wrong:
+        return [(None, str(wrong))]
 
 
 def main():
     words = asked(__doc__, counts=20_000, seed=0, read=False)
-    comparison = Comparison(None if words.read else built())
-    maker = TermMaker(random.Random(words.seed))
-    while comparison.passed + comparison.failed < words.counts and comparison.wrong < MOST_WRONG:
-        if comparison.silent >= MOST_SILENT:
-            break
-        comparison.compare(maker)
-    if comparison.silent >= MOST_SILENT:
-        comparison.failed += 1
+    program, maker = None if words.read else built(), TermMaker(random.Random(words.seed))
+    passed = failed = sets = silent = 0
+    while passed + failed < words.counts and sets < MOST_WRONG and silent < MOST_SILENT:
+        tables = maker.tables()
+        found = compared(program, maker.chance, tables)
+        if found is None:
+            continue
+        wrong = [(run, it) for run, it in found if it]
+        silent = 0 if found else silent + 1
+        passed, failed, sets = passed + len(found) - len(wrong), failed + len(wrong), sets + bool(wrong)
+        for run, it in wrong[:1]:
+            stands = ", ".join(itertools.starmap(row_text, run.items())) or "nothing" if run is not None else ""
+            print(f"FAILED {' | '.join(map(text_of, tables))}: {it}" + (f" in the run with {stands}" if stands else ""))
+    if silent >= MOST_SILENT:
+        failed += 1
         print(f"FAILED {MOST_SILENT} sets one after the other tell no count")
-    print(f"{comparison.passed} passed, {comparison.failed} failed")
-    return int(comparison.failed > 0)
+    print(f"{passed} passed, {failed} failed")
+    return int(failed > 0)
 
 
 if __name__ == "__main__":
