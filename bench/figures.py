@@ -64,7 +64,8 @@ MIXED = bytes.fromhex(
 
 
 def compiled(devices: int, times: int = 1) -> dict:
-    """A set of a DSDT with so many devices, sixteen to a bus, by iasl, as often, each time with another outermost device."""
+    """A set of a DSDT with so many devices, sixteen to a bus, by iasl, as often, each time with another outermost
+    device."""
     text = 'DefinitionBlock ("", "DSDT", 2, "BENCH", "FIGURES", 1) {\nDevice (\\_SB.' + OUTERMOST.decode() + ") {\n"
     for first in range(0, devices, DEVICES_OF_A_BUS):
         inner = [DEVICE % {"number": number} for number in range(min(DEVICES_OF_A_BUS, devices - first))]

@@ -240,7 +240,8 @@ def sparse_files(count, size):
 
 
 def calling_tables(count, size, arguments, told=None):
-    """Tables of so many methods, each of which calls one of the next table, which an External names where it is told."""
+    """Tables of so many methods, each of which calls one of the next table, which an External names where it is
+    told."""
     codes = []
     for number in range(count):
         called = [segment((number + 1) % count * size + index) for index in range(size)]
@@ -255,8 +256,8 @@ ADDRESS, LED = 0x1000, ["facp.dat", "dsdt.dat"]
 
 
 def led(names, width, more):
-    """A root pointer, a list of entries of so many bytes each, a FADT, a DSDT and SSDTs of these names, with a map. The list
-    has the FADT, each SSDT, and the last of them so many times more."""
+    """A root pointer, a list of entries of so many bytes each, a FADT, a DSDT and SSDTs of these names, with a map.
+    The list has the FADT, each SSDT, and the last of them so many times more."""
     entries = names[2:3] + names[4:] + names[-1:] * more
     places = {it: ADDRESS * (number + 1) for number, it in enumerate(names)}
     address = {it: place.to_bytes(width, "little") for it, place in places.items()}
@@ -285,7 +286,8 @@ def listed(entries):
 def both(name, count, unit, depth, make, any_run=False):
     """A shape by how many there are, so deep, and one by how deep they stand, so many."""
     yield one(name, count, unit, lambda size: make(size, depth), any_run=any_run)
-    yield one(f"{name}-deep", depth, "levels" if any_run else "segments", lambda size: make(count, size), any_run=any_run)
+    unit = "levels" if any_run else "segments"
+    yield one(f"{name}-deep", depth, unit, lambda size: make(count, size), any_run=any_run)
 
 
 # AML of so many, in a scope as deep as the second number says.
@@ -335,9 +337,9 @@ DEEP_SETS = (
     *(
         (
             f"deep-aliases-{where}", 2_000, "names", 10_000,
-            lambda count, depth, cut=cut: within(cut(depth), LEAF_NAME + within(depth - cut(depth), each(count, alias))),
+            lambda count, depth, cut=cut: within(depth // cut, LEAF_NAME + within(depth - depth // cut, each(count, alias))),
         )
-        for where, cut in (("upward", lambda _: 0), ("halfway", lambda depth: depth // 2), ("low", lambda depth: depth // 3))
+        for where, cut in (("upward", 1_000_000), ("halfway", 2), ("low", 3))
     ),
     # Names below paths that nothing but an External's path has, each before an Alias of a name at the root
     (
@@ -384,7 +386,8 @@ SHAPES = (
     # A chain of Aliases of a method, and calls by the first thousand of them
     one(
         "aliases", 1_000_000, "names",
-        lambda count: method(segment(0), 1, b"") + alias_chain(count) + main_method(each(mixed(1000), lambda it: it + b"\x60")),
+        lambda count: method(segment(0), 1, b"") + alias_chain(count)
+        + main_method(each(mixed(1000), lambda it: it + b"\x60")),
     ),
     one(
         "external", 1_000_000, "terms",
@@ -433,7 +436,7 @@ SHAPES = (
     ),
     Shape(
         "given-again", 2_000_000, "lines", given=True,
-        make=lambda count: {**tables(main_method(SEVEN)), GIVEN: b"".join(b"\\AAAA %d\n" % (it % 8) for it in range(count))},
+        make=lambda size: {**tables(main_method(SEVEN)), GIVEN: b"".join(b"\\AAAA %d\n" % (it % 8) for it in range(size))},
     ),
     one(
         "long-names", MOST_AML, "bytes",
@@ -457,9 +460,9 @@ SHAPES = (
     Shape("tables", 512, "files", lambda count: calling_tables(count, 500, 1)),
     Shape(
         "madt", MOST_BYTES, "bytes",
-        lambda size: {**tables(b""), "apic.dat": table(b"APIC", bytes(8) + b"\xff\x02" * ((size - HEADER_BYTES - 8) // 2))},
+        lambda size: {**tables(b""), "apic.dat": table(b"APIC", bytes(8) + b"\xff\x02" * ((size - 44) // 2))},
     ),
     Shape("listed", 2_000_000, "entries", listed),
     # An RSDT that lists a file again and again, each byte of whose long name is four in the text
-    Shape("named-entries", 262_144, "entries", lambda count: led(["rsdp.dat", "rsdt.dat", *LED, "\x01" * 255], 4, count - 2)),
+    Shape("named-entries", 262_144, "entries", lambda size: led(["rsdp.dat", "rsdt.dat", *LED, "\x01" * 255], 4, size - 2)),
 )

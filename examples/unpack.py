@@ -74,7 +74,8 @@ def dumped(text):
             title = None
     for (number, name, _), data in tables:
         if len(data) < 8 or length_of(data) > len(data):
-            raise Refused(f"line {number}: {name} has {len(data)} bytes of {length_of(data) if len(data) > 7 else 'its header'}")
+            whole = length_of(data) if len(data) > 7 else "its header"
+            raise Refused(f"line {number}: {name} has {len(data)} bytes of {whole}")
     return [Table(bytes(data), name, address) for (_, name, address), data in tables]
 
 

@@ -271,8 +271,8 @@ def options_of(any_sum: bool, any_run: bool, unknown_zero: bool) -> int:
 
 
 def load(
-    source: Source, *, any_sum: bool = False, any_run: bool = False, unknown_zero: bool = False, externals: Counts = None,
-    text: bool = True, bodies: bool = True,
+    source: Source, *, any_sum: bool = False, any_run: bool = False, unknown_zero: bool = False,
+    externals: Counts = None, text: bool = True, bodies: bool = True,
 ) -> Listing:  # fmt: skip
     """The listing of a folder of dumps, or of the bytes of dumps by their names.
 
@@ -291,8 +291,9 @@ def load(
 
 
 def check(
-    source: Source, *, any_sum: bool = False, any_run: bool = False, unknown_zero: bool = False, externals: Counts = None
-) -> str:
+    source: Source, *, any_sum: bool = False, any_run: bool = False, unknown_zero: bool = False,
+    externals: Counts = None,
+) -> str:  # fmt: skip
     """The lines that the program prints with --check: of each table whether what was read encodes to its bytes."""
     with Open() as opened:
         filled(opened, source, options_of(any_sum, any_run, unknown_zero), externals)

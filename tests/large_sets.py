@@ -38,7 +38,7 @@ METHOD_LENGTH = 10
 # The text of a table that `table` makes, up to its length and behind it.
 BEGUN, ENDED = f'Table "{BLOCK}" "DSDT" Length ', ' Revision 2 Oem "TEST  " "EXAMPLE " 00000001 Creator "TEST" 00000001\n'
 
-# How many of the cuts of these tables, the whole tables among them, are taken, and how many bodies of two bytes are read as terms.
+# How many of the cuts, the whole tables among them, are taken, and how many bodies of two bytes are read as terms.
 TAKEN_CUTS, READ_BODIES = 60, 880
 # The methods of the mixed order, and how many names are looked up that nothing declares. The step has no factor in common
 # with the number of methods, so that each comes once.

@@ -70,8 +70,8 @@ def mixed(count):
 
 
 def bytes_of(text):
-    """Two hexadecimal digits a byte, words of opcodes, texts in single quotes, and in brackets what has a package length in
-    front."""
+    """Two hexadecimal digits a byte, words of opcodes, texts in single quotes, and in brackets what has a package
+    length in front."""
     opcodes = {row.mnemonic: f"{opcode:0{2 if opcode < 256 else 4}X}" for opcode, row in ROWS.items()}
     opened = [b""]
     for word, plain, bracket in re.findall(r"(\w+)|'([^']*)'|(\]|\[)", text):

@@ -6,12 +6,12 @@ there.
 
 A block that begins with ```console has commands behind `$ `, more lines of theirs behind `> `, and below what they
 print. They run in a folder with `mine`, the set of docs/listing.md, whose text is the first block of that page, with
-`boards`, the sets of tests/made_aml.py, and with `examples`; `./acpidis` is the launcher. Then they run once more as the
-commands of an installed program, `acpidis-page` for `examples/page.py`. README and docs have no more pages and words
-than they may. What pages quote, link to or name stands there: sources, headings, contracts, clauses, wrong bodies.
-The manual page is looked through by mandoc and groff, each where it is installed; options and words are compared with
-the program's and the sources'. Last, the scripts that the pages speak of are tried, but with --no-scripts. The last
-line is 'N passed, N failed'.
+`boards`, the sets of tests/made_aml.py, and with `examples`; `./acpidis` is the launcher. Then they run once more as
+the commands of an installed program, `acpidis-page` for `examples/page.py`. README and docs have no more pages and
+words than they may. What pages quote, link to or name stands there: sources, headings, contracts, clauses, wrong
+bodies. The manual page is looked through by mandoc and groff, each where it is installed; options and words are
+compared with the program's and the sources'. Last, the scripts that the pages speak of are tried, but with
+--no-scripts. The last line is 'N passed, N failed'.
 """
 
 import itertools

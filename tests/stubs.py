@@ -43,7 +43,7 @@ POOL_STUBS = {
     "is always whole": "#!/bin/sh\necho whole\n",
 }
 COMPILERS = {"cc", "gcc", "clang", "c89", "c99"}
-# The scripts that take the program; others, each with a file in which something is wrong; and what is told of empty pages
+# The scripts that take the program; others, each with a file in which something is wrong; what is told of empty pages
 OF_PROGRAM, WRONG, EMPTY_PAGES = (
     [line for line in part.splitlines() if not line.startswith("#")]
     for part in (TOP / "tests/stubs.txt").read_text().split("\n\n")
@@ -74,7 +74,8 @@ def trials(room):
         yield Trial(f"tests/costs.py, a program that {what}", ["tests/costs.py"], placed(STUBS[what]))
     for script, what, file, old, new in (map(str.strip, line.split("|")) for line in WRONG):
         old, new = (it.replace("\\n", "\n") for it in (old, new))
-        yield Trial(f"{script}, {what}", script.split(), {file: (TOP / file).read_text().replace(old, new) if old else new})
+        text = (TOP / file).read_text().replace(old, new) if old else new
+        yield Trial(f"{script}, {what}", script.split(), {file: text})
     words = ["tests/refusals.py", "program"]
     yield Trial("tests/refusals.py, no C compiler", words, placed(REFUSES), without_compilers(room))
     yield Trial("tests/worked_runs.py, no examples", ["tests/worked_runs.py"], {"tests/worked_runs.txt": "", **placed(EMPTY)})

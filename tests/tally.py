@@ -1,5 +1,5 @@
-"""What the tests beside this file share: where what they try lies, and counts of what passes and what fails. It tells the others' places,
-so it comes before them."""
+"""What the tests beside this file share: where what they try lies, and counts of what passes and what fails. It tells
+the others' places, so it comes before them."""
 
 from __future__ import annotations
 

@@ -3,9 +3,9 @@
 
 usage: tests/wrong_bodies.py [--outside|--all] [--over FOLDER] [CRATE[/NAME]..]
 
-The wrong bodies are those of crates/CRATE/must-fail, with --outside those of crates/CRATE/wrong-bodies.edits, or both. The crates
-below are proved first, where that isn't done yet; with --over they are those that rt ci left in a copy of the repository. The
-last line is 'N passed, N failed'.
+The wrong bodies are those of crates/CRATE/must-fail, with --outside those of crates/CRATE/wrong-bodies.edits, or both.
+The crates below are proved first, where that isn't done yet; with --over they are those that rt ci left in a copy of
+the repository. The last line is 'N passed, N failed'.
 
 There are three verdicts, each printed with its reason:
 
@@ -113,8 +113,8 @@ def functions_of(file, text):
 
 
 def place_at(file, text, at):
-    """What stands at an offset of a source: the body of a function, or one of the module's other items. A table that one
-    function alone names counts as a part of its body."""
+    """What stands at an offset of a source: the body of a function, or one of the module's other items. A table that
+    one function alone names counts as a part of its body."""
     functions = list(functions_of(file, text))
     begun = next((it for it in TABLE.finditer(text) if it.start() <= at < it.end()), None)
     naming = [it for it in functions if begun and re.search(rf"\b{begun[1]}\b", text[it.begin : it.end])]
@@ -123,8 +123,8 @@ def place_at(file, text, at):
 
 
 def read_wrong_body(name, text, folder):
-    """A wrong body from the text of its edit: lines `file: PATH`, and then pairs of `old: TEXT` and `new: TEXT`. It may change
-    names in a file of answers too, where the wrong body gives a call of the right one another name."""
+    """A wrong body from the text of its edit: lines `file: PATH`, and then pairs of `old: TEXT` and `new: TEXT`. It
+    may change names in a file of answers too, where the wrong body gives a call of the right one another name."""
     changes, places, file, old, sources = [], set(), None, None, {}
     for line in text.split("\n"):
         word, _, rest = line.partition(": ")
@@ -161,8 +161,8 @@ def sources_in(folder):
 
 
 def own_functions(sources):
-    """The functions that are no methods of a trait. Those of one source come from its end on. A method stands below its type,
-    wherever its impl stands."""
+    """The functions that are no methods of a trait. Those of one source come from its end on. A method stands below
+    its type, wherever its impl stands."""
     types = {found[1]: module_of(file) for file, text in sources.items() for found in TYPE.finditer(text)}
     for file, text in sources.items():
         for it in reversed(list(functions_of(file, text))):
@@ -204,8 +204,8 @@ COPY = re.compile(r"_copy\d+$")
 
 
 def first_batch(waiting, lone):
-    """Wrong bodies of different functions and cycles, as many as there are; or one that stands in no function. Further ones of
-    a function that can have copies, those of `lone`, stand in copies of it."""
+    """Wrong bodies of different functions and cycles, as many as there are; or one that stands in no function. Further
+    ones of a function that can have copies, those of `lone`, stand in copies of it."""
     batch, taken = [], collections.Counter()
     for it in waiting:
         keys = {place.cycle or place.name for place in it.places}
@@ -263,8 +263,8 @@ def copy_with(crate, batch, room):
 
 
 def leave_out_bodies(crate, room, batch):
-    """Makes the functions of a copy that have no wrong body never end, with a hole for the proof of each. What they state is
-    left, which is all that the others know of them."""
+    """Makes the functions of a copy that have no wrong body never end, with a hole for the proof of each. What they
+    state is left, which is all that the others know of them."""
     sources = sources_in(room)
     for file, it, path in list(spare_functions(sources, batch)):
         text = sources[file]

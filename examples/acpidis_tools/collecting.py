@@ -124,8 +124,8 @@ class Collector:
         return self.rows
 
     def lines(self) -> Iterator[Line]:
-        """The lines of all blocks, each while `file` and `method` are those that it stands in. The rows of methods are added
-        where they are met first."""
+        """The lines of all blocks, each while `file` and `method` are those that it stands in. The rows of methods are
+        added where they are met first."""
         for block in self.listing.blocks:
             self.file, end = block.file[1:-1], 0
             for line in block.lines:

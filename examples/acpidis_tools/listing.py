@@ -190,7 +190,8 @@ class Reader:
             depth -= 1
         pieces = WORD.split(bare)
         is_wrong = len(text) - len(bare) != 2 * depth or len(pieces) == 1 and bare != "}"
-        if is_wrong or not all(map(BETWEEN.fullmatch, pieces[::2])) or bare.startswith("Raw") and not RAW.fullmatch(bare):
+        is_wrong = is_wrong or bare.startswith("Raw") and not RAW.fullmatch(bare)
+        if is_wrong or not all(map(BETWEEN.fullmatch, pieces[::2])):
             raise self.refuse()
         self.at += 1
         return Line(self.at, depth, pieces)

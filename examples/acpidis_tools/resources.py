@@ -129,7 +129,8 @@ def read_only(data: Bytes) -> str:
 def register(data: Bytes) -> Descriptor:
     access = ("", "bytes", "words", "double words", "quad words")
     space, bits, shift, size = data.numbers(3, 1, 4)
-    words = space_name(space), f"{bits} bits", shift and f"from bit {shift}", 0 < size < len(access) and f"by {access[size]}"
+    by = 0 < size < len(access) and f"by {access[size]}"
+    words = space_name(space), f"{bits} bits", shift and f"from bit {shift}", by
     return said("Register", *words, first=data.number(7, 8), digits=1)
 
 
@@ -216,7 +217,8 @@ def serial_bus(data: Bytes) -> Descriptor:
         words = f"{data.number(12, 4)} Hz", kept & 1 and "10-bit address"
         return said("I2cSerialBus", *words, first=data.number(16, 2), digits=4, source=source)
     if kind == 2:
-        words = f"{data.number(12, 4)} Hz", f"{data.number(16, 1)} bits", kept & 1 and "3 wires", kept & 2 and "select high"
+        words = f"{data.number(12, 4)} Hz", f"{data.number(16, 1)} bits"
+        words += kept & 1 and "3 wires", kept & 2 and "select high"
         words += data.number(17, 1) and "second phase", data.number(18, 1) and "polarity high"
         return said("SpiSerialBus", *words, first=data.number(19, 2), digits=4, source=source)
     if kind == 3:
@@ -236,7 +238,8 @@ SMALLS = {
     0x0E: (0, 7, lambda it: said("VendorShort", f"{len(it.data) - SMALL} bytes")),
 }
 LARGES = {
-    0x01: (9, 9, partial(memory, "Memory24", 2, 8)), 0x02: (12, 12, register), 0x05: (17, 17, partial(memory, "Memory32", 4, 0)),
+    0x01: (9, 9, partial(memory, "Memory24", 2, 8)), 0x02: (12, 12, register),
+    0x05: (17, 17, partial(memory, "Memory32", 4, 0)),
     0x07: (23, ANY, partial(address_space, "DWord", 4)), 0x08: (13, ANY, partial(address_space, "Word", 2)),
     0x09: (6, ANY, interrupt), 0x0A: (43, ANY, partial(address_space, "QWord", 8)),
     0x0B: (53, 53, partial(address_space, "Extended", 8)), 0x0C: (20, ANY, gpio), 0x0E: (9, ANY, serial_bus),

@@ -1,5 +1,5 @@
-"""Words of the ACPI Specification 6.5 for numbers and names that a listing has, and the identifiers that it has as numbers and
-bytes: EISA ids and UUIDs."""
+"""Words of the ACPI Specification 6.5 for numbers and names that a listing has, and the identifiers that it has as
+numbers and bytes: EISA ids and UUIDs."""
 
 from __future__ import annotations
 

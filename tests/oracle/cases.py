@@ -143,8 +143,8 @@ def map_text(words, text):
 
 
 OF_BYTES = {
-    "terms": each_text, "step": step_text, "cuts": cuts_text, "name": name_text, "length": length_text, "madt": madt_text,
-    "xsdt": entries_text(b"XSDT"), "rsdt": entries_text(b"RSDT"), "map": map_text,
+    "terms": each_text, "step": step_text, "cuts": cuts_text, "name": name_text, "length": length_text,
+    "madt": madt_text, "xsdt": entries_text(b"XSDT"), "rsdt": entries_text(b"RSDT"), "map": map_text,
     "body": lambda words, code: text_of(counted(words)(code)),
     "table": lambda _, code: text_of(Reader(code)),
     "kept": lambda _, code: ["".join(hexadecimal(code))],

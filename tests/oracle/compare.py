@@ -134,8 +134,8 @@ def write_trial(room, trial):
 
 def main():
     words = asked(
-        __doc__, seconds=60.0, sets=int, seed=0, with_externals=False, any_run=False, deep=False, mutated=False, read=False,
-        workers="", folders=(),
+        __doc__, seconds=60.0, sets=int, seed=0, with_externals=False, any_run=False, deep=False, mutated=False,
+        read=False, workers="", folders=(),
     )  # fmt: skip
     workers = [int(it) for it in words.workers.split(",")] if words.workers else None
     comparison = Comparison(None if words.read else built(), workers)

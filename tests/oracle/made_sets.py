@@ -194,12 +194,12 @@ class SetMaker:
     def extra_files(self):
         chance = self.chance
         other = lambda: table(chance, chance.choice(SIGNATURES), chance.randbytes(chance.randrange(40)))
+        facs = lambda length: FACS + length.to_bytes(4, "little") + chance.randbytes(length - 8)
         makers = {
             "rsdp.dat": lambda: root(chance, chance.choice((0, 2)), chance.randrange(1 << 32), chance.randrange(1 << 64)),
             **{name: lambda name=name: self.stray_list(name) for name in LIST_FILES},
             "facp.dat": lambda: fadt(chance, chance.randrange(1 << 32)), "apic.dat": lambda: madt(chance),
-            "facs.dat": lambda: FACS + (length := chance.choice((8, 9, 64))).to_bytes(4, "little") + chance.randbytes(length - 8),
-            "other.dat": other, "other2.dat": other,
+            "facs.dat": lambda: facs(chance.choice((8, 9, 64))), "other.dat": other, "other2.dat": other,
         }
         return {name: make() for name, make in makers.items() if self.happens(0.25)}
 

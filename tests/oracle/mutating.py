@@ -1,5 +1,5 @@
-"""Changes to AML by one who sees its structure: terms and packages go, come and move, with the lengths around them; and to whole
-sets of tables, given by the contents of files: to the AML of a table, to headers, or to files."""
+"""Changes to AML by one who sees its structure: terms and packages go, come and move, with the lengths around them;
+and to whole sets of tables, given by the contents of files: to the AML of a table, to headers, or to files."""
 
 import functools
 import re

@@ -74,7 +74,8 @@ def term_lines(term, body_of, level):
     else:
         yield f"{indent}{head(term)} {{"
         for inner in term.tail:
-            yield from [f"{indent}  {unit_text(inner)}"] if term.row.tail == "f" else term_lines(inner, body_of, level + 1)
+            is_unit = term.row.tail == "f"
+            yield from [f"{indent}  {unit_text(inner)}"] if is_unit else term_lines(inner, body_of, level + 1)
     yield indent + "}"
 
 

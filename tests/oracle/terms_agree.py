@@ -231,7 +231,8 @@ def outcome_of(program, chance, codes):
 
 
 def compared(program, chance, tables):
-    """Of each count in a run, with that run, None where it is told so, else what is wrong. None where there are too many runs."""
+    """Of each count in a run, with that run, None where it is told so, else what is wrong. None where there are too
+    many runs."""
     runs = runs_of(tables)
     if len(runs) > MOST_RUNS:
         return None

@@ -1,4 +1,5 @@
-"""What tests and benches have of a trial: the words of their command line, the program that they try, and what a run of it takes."""
+"""What tests and benches have of a trial: the words of their command line, the program that they try, and what a run
+of it takes."""
 
 import argparse
 import os
@@ -16,8 +17,9 @@ Answer = namedtuple("Answer", "seconds processor peak status faults")
 
 
 def asked(about, **names):
-    """The words of the command line, by names with what each is where it is left out: False of a flag, a path of a word that
-    may stand there, an empty tuple of a list of folders; a type where there is none. The help is what the first lines say."""
+    """The words of the command line, by names with what each is where it is left out: False of a flag, a path of a
+    word that may stand there, an empty tuple of a list of folders; a type where there is none. The help is what the
+    first lines say."""
     words = argparse.ArgumentParser(description=about, formatter_class=argparse.RawDescriptionHelpFormatter)
     for name, value in names.items():
         option = "--" + name.replace("_", "-")

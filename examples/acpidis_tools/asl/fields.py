@@ -1,5 +1,5 @@
-"""A line of a field list as one of ASL (19.6.48). In a Connection ASL takes a name or the macro of a resource descriptor, and no
-bytes (6.4.3.8)."""
+"""A line of a field list as one of ASL (19.6.48). In a Connection ASL takes a name or the macro of a resource
+descriptor, and no bytes (6.4.3.8)."""
 
 import re
 

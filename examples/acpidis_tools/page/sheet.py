@@ -1,5 +1,5 @@
-"""What a page is made of, and the small pieces of HTML that all of its parts are written with; and parts of a page that are
-packed, since they are too many to be laid out at once: a browser unpacks those that come into sight."""
+"""What a page is made of, and the small pieces of HTML that all of its parts are written with; and parts of a page
+that are packed, since they are too many to be laid out at once: a browser unpacks those that come into sight."""
 
 from __future__ import annotations
 
