@@ -18,12 +18,11 @@ import re
 import shutil
 import subprocess
 
-from tally import DEMO, TOP, Tally, run_script, timed, written
+from tally import DEMO, PROGRAM, TOP, Tally, asked, run_script, timed, written
 import splice
 from acpidis_tools.asl.blocks import Block, Reader
 from acpidis_tools.asl.names import said_by
 from acpidis_tools.listing import NoListing
-from trying import PROGRAM, asked
 from dumps import dumps_of
 from folders import read_folder
 from hostile import mutated

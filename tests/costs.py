@@ -10,8 +10,7 @@ PROGRAM is out/acpidis if left out. It needs a C compiler, for refusals.c. The l
 import os
 import subprocess
 
-from tally import DEMO, Tally, shim_in, written
-from trying import PROGRAM, asked, run
+from tally import DEMO, PROGRAM, Tally, asked, run, shim_in, written
 import hostile_shapes as shapes
 import measuring
 from made_aml import tables

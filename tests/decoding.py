@@ -16,8 +16,7 @@ import re
 import shutil
 import tempfile
 
-from tally import DEMO, TOP, Tally, written
-from trying import asked
+from tally import DEMO, TOP, Tally, asked, written
 from acpidis_tools.decoding import Decoder, bits_text, flag_words
 from dumps import order_of
 from folders import read_folder

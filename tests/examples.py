@@ -13,8 +13,7 @@ import re
 import shlex
 import subprocess
 
-from tally import TOP, Tally, on_full_disk, run_script, timed, written
-from trying import asked
+from tally import TOP, Tally, asked, on_full_disk, run_script, timed, written
 from made_aml import SETS, device, method, table, tables
 
 

@@ -20,9 +20,8 @@ import sqlite3
 import subprocess
 import sys
 
-from tally import TOP, Tally, first_difference, module_of, on_full_disk, run_script, written
+from tally import TOP, Tally, asked, first_difference, module_of, on_full_disk, run_script, written
 from acpidis_tools import command
-from trying import asked
 from loading import path_text
 from made_aml import VERSIONS, buffer, device, region, table, tables
 from running import REFUSED, Options, Outcome, run_folder

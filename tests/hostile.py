@@ -16,11 +16,10 @@ import re
 import resource
 import subprocess
 
-from tally import TOP, Tally, module_of, on_full_disk, run_script, timed, written
+from tally import TOP, Tally, asked, module_of, on_full_disk, run_script, timed, written
 from acpidis_tools.errors import read_errors
 from acpidis_tools.listing import NoListing
 from acpidis_tools.page.markup import page
-from trying import asked
 from running import Options, run_folder
 from acpidis_tools.page.sheet import Sheet
 from telling import HOSTILE_FILES, RUNS_FILES

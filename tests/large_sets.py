@@ -19,8 +19,7 @@ import pathlib
 import tempfile
 from collections import namedtuple
 
-from tally import Tally, written
-from trying import PROGRAM, asked
+from tally import PROGRAM, Tally, asked, written
 from compare import first_difference, run_program
 from dumps import HEADER_LENGTH, MOST_BYTES, MOST_DUMPS, dumps_of
 from loading import MOST_METHODS

@@ -25,8 +25,7 @@ import sys
 import tempfile
 import time
 
-from tally import DEMO, TOP, Tally, timed, written
-from trying import PROGRAM, asked
+from tally import DEMO, PROGRAM, TOP, Tally, asked, timed, written
 from compare import write_trial
 from made_aml import tables
 from made_sets import SetMaker

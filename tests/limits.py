@@ -12,8 +12,7 @@ it. The last line is 'N passed, N failed'.
 
 import subprocess
 
-from tally import Tally, written
-from trying import PROGRAM, asked
+from tally import PROGRAM, Tally, asked, written
 import hostile_shapes as shapes
 from made_aml import tables
 from running import DONE, Options, Outcome, refused, run_folder

@@ -16,12 +16,11 @@ import re
 import subprocess
 from collections import Counter
 
-from tally import Tally, first_difference, run_script, written
+from tally import Tally, asked, first_difference, run_script, written
 from acpidis_tools.page import lines as lines_module
 from acpidis_tools.page import tree as tree_module
 from acpidis_tools.comparison import differences
 from acpidis_tools.errors import read_errors
-from trying import asked
 from made_aml import SETS, method, table
 from acpidis_tools.page.markup import page
 from page_html import Read, read_page

@@ -22,8 +22,7 @@ import sys
 import tempfile
 import time
 
-from tally import TOP, Tally, run_script, written
-from trying import asked
+from tally import TOP, Tally, asked, run_script, written
 from running import Options, run_folder
 from telling import HOSTILE_FILES
 

@@ -18,8 +18,7 @@ import re
 import sys
 import tempfile
 
-from tally import TOP, Tally, shim_in, written
-from trying import PROGRAM
+from tally import PROGRAM, TOP, Tally, shim_in, written
 from limits import WANTS, ended
 from made_aml import SETS, tables
 from running import DONE, RAW

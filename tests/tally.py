@@ -16,10 +16,11 @@ import tempfile
 import types
 from collections.abc import Callable, Iterable
 
-sys.dont_write_bytecode = True
-TOP = pathlib.Path(__file__).resolve().parent.parent
+PLACES = [pathlib.Path(__file__).resolve().parent.parent / it for it in ("tests/oracle", "tests", "examples", "bench")]
+sys.path[1:1] = map(str, PLACES)
+from trying import PROGRAM, TOP, asked, end, run  # noqa: E402, F401
+
 DEMO = TOP / "crates/acpidis_program/data/demo"
-sys.path[1:1] = [str(TOP / place) for place in ("tests/oracle", "tests", "examples", "bench")]
 
 
 class Stopped(Exception):
@@ -55,9 +56,7 @@ class Tally:
                 raise Stopped
 
     def end(self) -> None:
-        """Prints the last line, and ends the test."""
-        print(f"{self.passed} passed, {self.failed} failed")
-        sys.exit(self.failed > 0 or not self.passed)
+        end(self.passed, self.failed)
 
 
 def first_difference(got: Iterable, wanted: Iterable) -> str | None:

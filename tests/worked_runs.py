@@ -14,8 +14,7 @@ import itertools
 import pathlib
 import tempfile
 
-from tally import TOP, Tally, first_difference
-from trying import PROGRAM, asked
+from tally import PROGRAM, TOP, Tally, asked, first_difference
 from cases import Rows
 from compare import run_program
 from folders import MAP_NAME

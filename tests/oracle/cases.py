@@ -9,16 +9,15 @@ It shares nothing with the program: the modules beside it read code, namespaces,
 import re
 import sys
 
-sys.dont_write_bytecode = True
-
-from dumps import RECORDS, Bad, Dump, addresses_of, little, order_of, records_of  # noqa: E402
-from folders import LineFault, parse_externals, parse_map  # noqa: E402
-from any_run import RunNamespace  # noqa: E402
-from loading import Body, Namespace, path_text  # noqa: E402
-from made_sets import sealed  # noqa: E402
-from printing import hexadecimal, row_text, term_lines  # noqa: E402
-from reading import IF, METHOD, Name, Op, Reader, Refused  # noqa: E402
-from running import FLAGS, Options, run  # noqa: E402
+import trying  # noqa: F401
+from dumps import RECORDS, Bad, Dump, addresses_of, little, order_of, records_of
+from folders import LineFault, parse_externals, parse_map
+from any_run import RunNamespace
+from loading import Body, Namespace, path_text
+from made_sets import sealed
+from printing import hexadecimal, row_text, term_lines
+from reading import IF, METHOD, Name, Op, Reader, Refused
+from running import FLAGS, Options, run
 
 HEADER = b"\x02\0TEST  EXAMPLE \x01\0\0\0TEST\x01\0\0\0"
 WIDTHS = {1: "One", 2: "Two", 3: "Three", 4: "Four"}

@@ -24,17 +24,14 @@ import re
 import resource
 import shutil
 import subprocess
-import sys
 import tempfile
 import time
 
-sys.dont_write_bytecode = True
-
-from folders import file_names  # noqa: E402
-from made_sets import SetMaker  # noqa: E402
-from mutating import MutatedMaker  # noqa: E402
-from running import DONE, RAW, REFUSED, Options, Outcome, run_folder  # noqa: E402
-from trying import asked, built, run  # noqa: E402
+from trying import asked, built, end, run
+from folders import file_names
+from made_sets import SetMaker
+from mutating import MutatedMaker
+from running import DONE, RAW, REFUSED, Options, Outcome, run_folder
 
 FOLDER, EXTERNALS = "set", "externals.txt"
 MARK = re.compile(r"(?<= )(Maybe|Times)(?= [0-9]+$|$| Times [0-9]+$)", re.MULTILINE)
@@ -108,7 +105,7 @@ class Comparison:
             print(f"{self.decided} sets that a file of externals changes")
         if self.marks:
             print(f"{self.marks['Maybe']} paths that only may stand, {self.marks['Times']} that are declared several times")
-        print(f"{self.ends.total() - self.differences} passed, {self.differences} failed")
+        end(self.ends.total() - self.differences, self.differences)
 
 
 def kept_words(folder, options):
@@ -154,7 +151,6 @@ def main():
             comparison.compare(*write_trial(pathlib.Path(room), trial))
     print(f"seed {words.seed}")
     comparison.report()
-    sys.exit(comparison.differences > 0)
 
 
 if __name__ == "__main__":

@@ -10,10 +10,8 @@ import dataclasses
 import pathlib
 import sys
 
-sys.dont_write_bytecode = True
-
-from trying import asked  # noqa: E402
-from running import Options, run_folder  # noqa: E402
+from trying import asked
+from running import Options, run_folder
 
 
 def main():

@@ -11,14 +11,11 @@ The last line is 'N passed, N failed', by the lists; 150 names are asked of each
 
 import itertools
 import random
-import sys
 
-sys.dont_write_bytecode = True
-
-from any_run import RunNamespace, agreed  # noqa: E402
-from trying import asked  # noqa: E402
-from loading import Namespace, path_text  # noqa: E402
-from reading import Name  # noqa: E402
+from trying import asked, end
+from any_run import RunNamespace, agreed
+from loading import Namespace, path_text
+from reading import Name
 
 SEGMENTS = ["AAAA", "BBBB", "_OSI", "_SB_"]
 PATHS = [(one,) for one in SEGMENTS] + [("_SB_", "AAAA"), ("_SB_", "BBBB"), ("_SB_", "AAAA", "BBBB"), ("AAAA", "BBBB")]
@@ -110,9 +107,8 @@ def main():
         failed += bool(fails)
         for fail in fails[:1]:
             print(f"FAILED {fail}")
-    print(f"{words.lists - failed} passed, {failed} failed")
-    return int(failed > 0)
+    end(words.lists - failed, failed)
 
 
 if __name__ == "__main__":
-    sys.exit(main())
+    main()

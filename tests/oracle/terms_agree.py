@@ -19,22 +19,19 @@ import itertools
 import pathlib
 import random
 import re
-import sys
 import tempfile
 from typing import NamedTuple
 
-sys.dont_write_bytecode = True
-
-from trying import asked, built  # noqa: E402
-from compare import run_program, write_trial  # noqa: E402
-from loading import PREDEFINED, path_text  # noqa: E402
-from made_code import package_length, shortest  # noqa: E402
-from made_sets import Trial, table  # noqa: E402
-from made_terms import BLOCKS, DEVICES, RARE_SEGMENTS, SEGMENTS, TermMaker  # noqa: E402
-from made_terms import code_of, root_name, text_of  # noqa: E402
-from printing import row_text  # noqa: E402
-from reading import Name  # noqa: E402
-from running import DONE, RAW, REFUSED, Options, run_folder  # noqa: E402
+from trying import asked, built, end
+from compare import run_program, write_trial
+from loading import PREDEFINED, path_text
+from made_code import package_length, shortest
+from made_sets import Trial, table
+from made_terms import BLOCKS, DEVICES, RARE_SEGMENTS, SEGMENTS, TermMaker
+from made_terms import code_of, root_name, text_of
+from printing import row_text
+from reading import Name
+from running import DONE, RAW, REFUSED, Options, run_folder
 
 SCOPES = {"Scope", *DEVICES}
 MOST_RUNS, QUESTIONS = 100, 12
@@ -263,9 +260,8 @@ def main():
     if silent >= MOST_SILENT:
         failed += 1
         print(f"FAILED {MOST_SILENT} sets one after the other tell no count")
-    print(f"{passed} passed, {failed} failed")
-    return int(failed > 0)
+    end(passed, failed)
 
 
 if __name__ == "__main__":
-    sys.exit(main())
+    main()

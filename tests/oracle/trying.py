@@ -10,6 +10,8 @@ import threading
 import time
 from collections import namedtuple
 
+# It is imported first, so that the others leave no bytecode.
+sys.dont_write_bytecode = True
 TOP = pathlib.Path(__file__).resolve().parents[2]
 PROGRAM = TOP / "out/acpidis"
 # What a run took: seconds, processor seconds, peak memory in bytes, its status, and the page faults that needed no disk
@@ -36,6 +38,12 @@ def asked(about, **names):
     if "program" in names and not getattr(found, "read", False):
         found.program = built(found.program)
     return found
+
+
+def end(passed, failed):
+    """Prints the last line of a test, and ends it."""
+    print(f"{passed} passed, {failed} failed")
+    sys.exit(failed > 0 or not passed)
 
 
 def built(program=PROGRAM):
