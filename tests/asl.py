@@ -25,7 +25,7 @@ from acpidis_tools.asl.names import said_by
 from acpidis_tools.listing import NoListing
 from dumps import dumps_of
 from folders import read_folder
-from hostile import mutated
+from hostile import head_of, mutated, text_of
 from made_aml import SETS, VERSIONS, device, method, scope, table, tables
 from made_plain import PlainMaker
 from made_sets import sealed
@@ -115,19 +115,13 @@ def check_sets(checks, count, folders):
 
 # ---- what ASL hasn't got
 
-HEAD = 'Table "a.dat" "DSDT" Length 36 Revision {} Oem "TEST  " "EXAMPLE " 00000001 Creator "TEST" 00000001\n'
-ROWS = r"""
-  \FOO_ Method 1
-  \BAR_ Name
-  \DEV0 Device
-  \DEV0._STA Method 0
-"""
+ROWS = ["\\FOO_ Method 1", "\\BAR_ Name", "\\DEV0 Device", "\\DEV0._STA Method 0"]
 CALLED = "External (NEW0, 0x08, 0x01)\n    NEW0 (One)"
 BY_PATH = "an External of a method that is called, by a name that isn't from the root"
 SCOPED = "FOO_ (One)\n  }\n  Scope (FOO_) {", "FOO_ as a call, where nothing says that it is a method"
 WIDE = "0x1122334455667788"
-BLOCK = 'DefinitionBlock ("a.dat") {\n  Method (FOO_, 1, NotSerialized, 0) {\n    Noop\n  }\n}\n'
-WHOLE = f"{HEAD.format(2)}Namespace 4{ROWS}{BLOCK}"
+WHOLE = text_of(ROWS, ["Method (FOO_, 1, NotSerialized, 0) {", "  Noop", "}"], "a.dat")
+BLOCK = WHOLE[WHOLE.index("DefinitionBlock") :]
 # What is no line of a listing.
 NO_LINES = (
     "noop", "", "Noop Noop", "Add (One One, )", "{", "Add (One, One, ", "Add One, One)", 'Store ("a, Local0)',
@@ -151,11 +145,8 @@ MISREAD = [
 
 
 def text_with(body, revision=2):
-    return (
-        f'{HEAD.format(revision)}Namespace 4{ROWS}DefinitionBlock ("a.dat") {{\n'
-        f"  Method (FOO_, 1, NotSerialized, 0) {{\n    {body}\n  }}\n  Name (BAR_, One)\n"
-        "  Device (DEV0) {\n    Method (_STA, 0, NotSerialized, 0) {\n    }\n  }\n}\n"
-    )
+    lines = ["Method (FOO_, 1, NotSerialized, 0) {", f"  {body}", "}", "Name (BAR_, One)", "Device (DEV0) {"]
+    return text_of(ROWS, [*lines, "  Method (_STA, 0, NotSerialized, 0) {", "  }", "}"], "a.dat", revision)
 
 
 def check_told(checks):
@@ -187,7 +178,7 @@ def check_names(checks):
     """Files of names that a command could take for something else, and many blocks."""
     odd = ["-o", "a b;$(touch bad)", "..", "*/ \\x0A", "DSDT", "_-o"]
     for what, names in (("odd", odd), ("many", [f"f{number}.dat" for number in range(512)])):
-        heads = "".join(HEAD.format(2).replace('"a.dat" "DSDT"', f'"{name}" "SSDT"') for name in names)
+        heads = "".join(head_of(name, "SSDT") for name in names)
         blocks = "".join(f'DefinitionBlock ("{name}") {{\n}}\n' for name in names)
         text = checks.text(f"{what}.text", f"{heads}Namespace 0\n{blocks}")
         checks.says(f"{what} names of files", [ASL, text, what], 0)

@@ -25,14 +25,21 @@ from acpidis_tools.page.sheet import Sheet
 from telling import HOSTILE_FILES, RUNS_FILES
 
 facts_script = module_of("facts_script", TOP / "examples/facts.py")
-HEAD = 'Table "d" "DSDT" Length 67 Revision 2 Oem "TEST  " "EXAMPLE " 00000001 Creator "TEST" 00000001\n'
 SECONDS, MOST_MEMORY = 2, 1_000_000_000
 MANY, LONG = 6_000, 16_000
 
 
-def text_of(rows: list, lines: list) -> str:
-    shown = "".join(f"  {row}\n" for row in rows)
-    return HEAD + f"Namespace {len(rows)}\n{shown}DefinitionBlock (\"d\") {{\n" + "".join(f"  {line}\n" for line in lines) + "}\n"
+def head_of(file: str, signature: str, revision: int = 2) -> str:
+    """The line of a table."""
+    names = f'Table "{file}" "{signature}" Length 67 Revision {revision} Oem "TEST  " "EXAMPLE "'
+    return f'{names} 00000001 Creator "TEST" 00000001\n'
+
+
+def text_of(rows: list, lines: list, file: str = "d", revision: int = 2) -> str:
+    """A listing with these rows, and with these lines in its one definition block."""
+    shown, inside = ("".join(f"  {it}\n" for it in some) for some in (rows, lines))
+    block = f'DefinitionBlock ("{file}") {{\n{inside}}}\n'
+    return f"{head_of(file, 'DSDT', revision)}Namespace {len(rows)}\n{shown}{block}"
 
 
 def body(*lines: str, path: str = "\\AAAA", rows: tuple = ()) -> str:

@@ -32,14 +32,6 @@ def buffer(data):
     return packed(b"\x11", b"\x0A" + bytes([len(data)]) + data)
 
 
-def region(name, space, offset, length):
-    return b"\x5B\x80" + name + bytes([space]) + offset + length
-
-
-def field(region, flags, units):
-    return packed(b"\x5B\x81", region + bytes([flags]) + units)
-
-
 def table(signature, code, oem_table=b"EXAMPLE"):
     """A table with this AML and a right checksum (ACPI 6.5, 5.2.6)."""
     return sealed(signature + b"\0\0\0\0\2\0TEST  " + oem_table.ljust(8) + b"\1\0\0\0TEST\1\0\0\0" + code)
