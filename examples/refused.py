@@ -125,9 +125,10 @@ class Set:
         self.space = aml.Space(sum(map(len, self.codes)))
         self.any_run, self.at_fault = asked.any_run, None
         self.wants_any_run = asked.has_any_run and not asked.any_run
-        for path, count in given_counts(asked.externals):
+        given = read_file("", asked.externals)[:MOST_BYTES].decode("latin-1") if asked.externals else ""
+        for path, count in GIVEN.findall(given):
             node = self.space.node(path)
-            node.given = max(node.given or 0, count)
+            node.given = max(node.given or 0, int(count))
 
     def read_to(self, refusal):
         """Reads the tables in front of the one at fault, and that one to where the fault is."""
@@ -145,13 +146,6 @@ class Set:
 
     def place(self, table, at):
         return f"{shown_name(self.order[table])}, offset {at}, byte {at + HEADER} of the file"
-
-
-def given_counts(file):
-    if not file:
-        return []
-    with open(file, "rb") as opened:
-        return [(path, int(count)) for path, count in GIVEN.findall(opened.read(MOST_BYTES).decode("latin-1"))]
 
 
 # ---- what is said

@@ -123,14 +123,6 @@ def sealed(table):
     return bytes(table)
 
 
-def raised(table):
-    """A table whose OEM revision is one more."""
-    revision = int.from_bytes(table[OEM_REVISION : OEM_REVISION + 4], "little") + 1
-    if revision >> 32:
-        raise Refused("the OEM revision can't be raised: it is FFFFFFFF")
-    return sealed(table[:OEM_REVISION] + revision.to_bytes(4, "little") + table[OEM_REVISION + 4 :])
-
-
 def archive(table):
     """A cpio archive, in the form that Linux wants, of a table where it looks for overrides."""
     name = f"{ARCHIVE}/{table[:4].decode('ascii', 'replace').lower()}.aml"
@@ -160,7 +152,11 @@ def main():
         table, new = command.read(asked.dump), command.read(asked.new)
         for path in asked.paths:
             table = patched(table, new, path, (asked.dump, asked.new))
-        table = raised(table) if asked.oem_revision else table
+        if asked.oem_revision:
+            revision = int.from_bytes(table[OEM_REVISION : OEM_REVISION + 4], "little") + 1
+            if revision >> 32:
+                raise Refused("the OEM revision can't be raised: it is FFFFFFFF")
+            table = sealed(table[:OEM_REVISION] + revision.to_bytes(4, "little") + table[OEM_REVISION + 4 :])
         if asked.initrd:
             command.write(asked.initrd, archive(table))
         if asked.output:

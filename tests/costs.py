@@ -57,14 +57,6 @@ def costs_of(program, folder, make, options=()):
     return answer
 
 
-def bounded(program, shape, folder):
-    """The processor time and the memory of a check of a bounded shape, each with its bound."""
-    answer = costs_of(program, folder, lambda: shape.make(shape.size), shape.options(folder))
-    most = STARTED_BYTES + BOUNDED[shape.name] * sum(file.stat().st_size for file in folder.iterdir())
-    yield f"seconds: {shape.name}", round(answer.processor, 2), MOST_SECONDS
-    yield f"bytes of memory: {shape.name}", answer.peak, most
-
-
 def measure(program, room):
     """What was counted, each with its bound."""
     folder = written(room / "set", tables(shapes.many_methods(METHODS)))
@@ -79,7 +71,11 @@ def measure(program, room):
         answer = costs_of(program, room / name, lambda: tables(make()))
         yield f"seconds: {name}", round(answer.processor, 2), most
     for shape in (it for it in shapes.SHAPES if it.name in BOUNDED):
-        yield from bounded(program, shape, room / shape.name)
+        folder = room / shape.name
+        answer = costs_of(program, folder, lambda: shape.make(shape.size), shape.options(folder))
+        most = STARTED_BYTES + BOUNDED[shape.name] * sum(file.stat().st_size for file in folder.iterdir())
+        yield f"seconds: {shape.name}", round(answer.processor, 2), MOST_SECONDS
+        yield f"bytes of memory: {shape.name}", answer.peak, most
 
 
 def main():

@@ -7,6 +7,7 @@ They run the program as they find it: ACPIDIS names another. With --stop the fir
 'N passed, N failed'.
 """
 
+import functools
 import itertools
 import os
 import re
@@ -127,19 +128,13 @@ def try_damage(tries):
         tries.is_so("a damaged table", found.returncode in (0, 1) and not found.stderr)
 
 
-def nested(levels):
-    """Devices in each other, around a Name."""
-    code = b"\x08DUPE\0"
-    for level in range(levels):
-        code = device(b"S%03d" % level, code)
-    return code
-
-
 def try_deep(tries):
     """Paths of many segments, and many names below them: an answer in time, or a line why not."""
     deep = b"\\\x2f\xff" + b"".join(b"S%03d" % level for level in range(255))
     longs = b"".join(b"\x08" + deep[:-4] + b"X%03d\0" % number for number in range(60))
-    tries.folder("nested", nested(480) * 2)
+    # Devices in each other, around a Name
+    nested = functools.reduce(lambda code, level: device(b"S%03d" % level, code), range(480), b"\x08DUPE\0")
+    tries.folder("nested", nested * 2)
     tries.folder("long", longs + b"\x08" + deep[:-4] + b"X000\0")
     tries.folder("below", method(deep, 0, b"\x70XXXX\x60" * 300))
     for folder in ("nested", "long", "below"):

@@ -74,7 +74,11 @@ class Checks(Tally):
         self.is_same(f"links without an anchor in {what}", read.links - set(read.anchors), set())
         self.is_same(f"anchors twice in {what}", [one for one, count in Counter(read.anchors).items() if count > 1], [])
         rows = outcome.out.partition("\nNamespace ")[2].partition("\nDef")[0]
-        marks = {path: marks_of(row) for path, row in re.findall(r"^  (\\\S*) ([A-Z].*)", rows, re.MULTILINE)}
+        # The class and the small words of a row of the tree, by the row of the listing
+        marks = {
+            path: (maybe.strip().lower() or None, ", ".join(["maybe"] * bool(maybe) + [f"{it} times" for it in [times] if it]))
+            for path, maybe, times in re.findall(r"^  (\\\S*) [A-Z].*?( Maybe)?(?: Times (\d+))?$", rows, re.MULTILINE)
+        }
         shown_marks = {path: tuple(row) for path, row in read.rows.items() if path in marks}
         self.is_same(f"marks of rows of {what}", shown_marks, marks)
         declared = {found["id"] for tag, found, *_ in read.names if tag == "dfn" and "id" in found}
@@ -91,13 +95,6 @@ class Checks(Tally):
         faults = [line.rpartition(": ")[2] for line in outcome.err.splitlines()]
         shown = [note[5:].partition(",")[0] for note in read.notes if note.startswith("raw: ")]
         self.is_same(f"faults of {what}", shown, faults)
-
-
-def marks_of(row: str) -> tuple[str | None, str]:
-    """The class and the small words of a row of the tree, by the row of the listing."""
-    is_maybe, times = re.search(r"( Maybe)?(?: Times (\d+))?$", row).groups()
-    words = (["maybe"] if is_maybe else []) + ([f"{times} times"] if times else [])
-    return "maybe" if is_maybe else None, ", ".join(words)
 
 
 def check_hostile(checks: Checks, read: Read) -> None:

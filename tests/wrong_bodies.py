@@ -218,14 +218,6 @@ def first_batch(waiting, lone):
     return batch or waiting[:1]
 
 
-def change(file, old, new):
-    """Replaces what stands once in a file."""
-    text = read(file)
-    if text.count(old) != 1:
-        sys.exit(f"{file}: beside the other wrong bodies this stands {text.count(old)} times, and not once: {old}")
-    write(file, text.replace(old, new))
-
-
 def add_copy(crate, lone, source, wrong, room):
     """Adds a copy of a function of this source behind it, with its proofs and with a wrong body in it."""
     file, it, path = lone
@@ -254,7 +246,10 @@ def copy_with(crate, batch, room):
             shutil.copytree(f"{folder}/{part}", f"{room}/{part}")
     for it in [it for it in batch if not it.copy]:
         for file, old, new in it.changes:
-            change(f"{room}/{file}", old, new)
+            text = read(f"{room}/{file}")
+            if text.count(old) != 1:
+                sys.exit(f"{file}: beside the other wrong bodies this stands {text.count(old)} times, and not once: {old}")
+            write(f"{room}/{file}", text.replace(old, new))
     sources = sources_in(folder)
     lone = {name_of_copy(it.function.place.name, body.copy): it for it in lone_functions(sources) for body in batch}
     for it in [it for it in batch if it.copy]:
@@ -438,14 +433,6 @@ def judged(rtlib, crate, waiting, kept, is_seeded):
         left_out, alone = left_out and bool(found), not (left_out or found)
 
 
-def seed(crate, kept):
-    """Begins with what `rt check` kept of a crate, if there is anything: then each check proves little more than what changed."""
-    own = f"{crate.folder}/out/incremental"
-    if os.path.isdir(own):
-        shutil.copytree(own, kept)
-    return os.path.isdir(own)
-
-
 def main():
     parser = argparse.ArgumentParser(usage=__doc__.split("usage: ")[1].split("\n")[0])
     which = parser.add_mutually_exclusive_group()
@@ -468,7 +455,10 @@ def main():
     counts = collections.Counter()
 
     def judge(crate, bodies, kept):
-        is_seeded = given.over == TOP and seed(crate, kept)
+        # It begins with what `rt check` kept, if there is anything: then each check proves little more than what changed.
+        is_seeded = given.over == TOP and os.path.isdir(f"{crate.folder}/out/incremental")
+        if is_seeded:
+            shutil.copytree(f"{crate.folder}/out/incremental", kept)
         for name, verdict in judged(rtlib, crate, bodies, kept, is_seeded):
             said = verdict.reason.replace("\n", "\n    ")
             print(f"{crate.name}/{name}: {verdict.kind}: {said}", flush=True)

@@ -71,13 +71,6 @@ def is_wide(root):
     return root[15] >= 2
 
 
-def check_root(data):
-    if len(data) < 20:
-        raise Bad("BadRoot")
-    if is_wide(data) and (len(data) < 36 or not 36 <= little(data, 20, 4) <= len(data)):
-        raise Bad("BadRoot")
-
-
 def root_sums(data):
     return sums_to_zero(data[:20]) and (not is_wide(data) or sums_to_zero(data[:little(data, 20, 4)]))
 
@@ -107,7 +100,9 @@ def check_dump(data, any_sum):
     if len(data) > MOST_BYTES:
         raise Bad("TooLarge")
     if data.startswith(ROOT):
-        check_root(data)
+        is_whole = len(data) >= 20 and (not is_wide(data) or len(data) >= 36 and 36 <= little(data, 20, 4) <= len(data))
+        if not is_whole:
+            raise Bad("BadRoot")
         if not any_sum and not root_sums(data):
             raise Bad("BadSum")
     elif data.startswith(FACS):

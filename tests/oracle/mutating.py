@@ -85,7 +85,9 @@ def layouts_of(codes, any_run=False):
     """The layouts of a tuple of tables in load order, with the bodies of their methods where all of them load; with code
     outside methods, of the methods before a fault."""
     layouts = [Layout() for _ in codes]
-    space = run_space(codes, layouts) if any_run else plain_space(codes, layouts)
+    space = RunNamespace() if any_run else plain_space(codes, layouts)
+    for table, (code, layout) in enumerate(zip(codes, layouts) if any_run else ()):
+        RunSurveyor(code, space=space, table=table, layout=layout).survey()
     for method in space.methods if space else []:
         body = codes[method.table][method.start:method.end]
         arity = space.arity(method.path)
@@ -100,13 +102,6 @@ def plain_space(codes, layouts):
         return load(codes).space
     except Unloadable:
         return None
-
-
-def run_space(codes, layouts):
-    space = RunNamespace()
-    for table, (code, layout) in enumerate(zip(codes, layouts)):
-        RunSurveyor(code, space=space, table=table, layout=layout).survey()
-    return space
 
 
 def replaced(code, layout, span, new):

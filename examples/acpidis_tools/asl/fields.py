@@ -61,17 +61,13 @@ def connection(inner, tell):
         raise Misread
     code = bytes.fromhex(form[2].replace(",", ""))
     try:
-        return f"Connection ({macro(code, form[1])})"
+        # iasl writes the size of its buffer in one or two bytes.
+        if form[1] != f"0x{len(code):0{2 if len(code) < 256 else 4}X}" or 3 + word_at(code, 1) != len(code):
+            raise NoMacro
+        return f"Connection ({gpio(code) if code[0] == GPIO else serial(code)})"
     except (NoMacro, IndexError):
         tell("a Connection of bytes that no macro here has")
         return f"// Connection ({inner})"
-
-
-def macro(code, size):
-    """The macro that makes these bytes. iasl writes the size of its buffer in one or two bytes."""
-    if size != f"0x{len(code):0{2 if len(code) < 256 else 4}X}" or 3 + word_at(code, 1) != len(code):
-        raise NoMacro
-    return gpio(code) if code[0] == GPIO else serial(code)
 
 
 def word_at(code, at):

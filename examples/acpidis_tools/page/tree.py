@@ -40,13 +40,6 @@ def nodes_of(rows: Iterable[Row], added: Iterable[Path]) -> dict[Path, Node]:
     return dict(sorted(nodes.items()))
 
 
-def kind_html(kind: str, sheet: Sheet) -> str:
-    """A kind, and what an Alias stands for as a link."""
-    word, _, target = kind.partition(" \\")
-    is_link = target and sheet.has_path(path_of(f"\\{target}"))
-    return f"{word} {link(path_of(f'{chr(92)}{target}'))}" if is_link else kind
-
-
 class TreeWriter:
     """`identifiers` are those of devices by the devices' paths."""
 
@@ -95,7 +88,11 @@ class TreeWriter:
 
     def node_html(self, path: Path, node: Node) -> str:
         mark = self.sheet.mark(path) or ("raw" if path in self.raw else "")
-        kind = f" {kind_html(node.kind, self.sheet)}" if node.kind else ""
+        # A kind, and what an Alias stands for as a link
+        word, _, target = node.kind.partition(" \\")
+        aim = path_of(f"\\{target}")
+        shown = f"{word} {link(aim)}" if target and self.sheet.has_path(aim) else node.kind
+        kind = f" {shown}" if node.kind else ""
         marks = f" <small>{node.marks}</small>" if node.marks else ""
         below = f" <small>{node.below:,}</small>" if node.below else ""
         ids = " ".join(dict.fromkeys(self.identifiers.get(path, ())))
