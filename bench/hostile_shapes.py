@@ -252,7 +252,7 @@ def calling_tables(count, size, arguments, told=None):
     return tables(*codes)
 
 
-ADDRESS, LED = 0x1000, ["facp.dat", "dsdt.dat"]
+ADDRESS, LED, LONG_NAME = 0x1000, ["facp.dat", "dsdt.dat"], "\x01" * 255
 
 
 def led(names, width, more):
@@ -337,7 +337,7 @@ DEEP_SETS = (
     *(
         (
             f"deep-aliases-{where}", 2_000, "names", 10_000,
-            lambda count, depth, cut=cut: within(depth // cut, LEAF_NAME + within(depth - depth // cut, each(count, alias))),
+            lambda size, deep, cut=cut: within(deep // cut, LEAF_NAME + within(deep - deep // cut, each(size, alias))),
         )
         for where, cut in (("upward", 1_000_000), ("halfway", 2), ("low", 3))
     ),
@@ -362,7 +362,7 @@ DEEP_SETS = (
     # Uses of the last of a thousand names that the method declares beside itself
     (
         "deep-local-uses", 20_000, "names", 10_000,
-        lambda count, depth: deep_body(depth, each(999, lambda it: name(b"^" + it)) + name(b"^NEAR") + b"^NEAR" * count),
+        lambda size, deep: deep_body(deep, each(999, lambda it: name(b"^" + it)) + name(b"^NEAR") + b"^NEAR" * size),
     ),
     ("deep-root-uses", 100_000, "names", 10_000, deep_root_uses),
     *((*row, lambda count, depth, make=make: within(depth, make(count))) for *row, make in DEEP_TERMS),
@@ -436,7 +436,7 @@ SHAPES = (
     ),
     Shape(
         "given-again", 2_000_000, "lines", given=True,
-        make=lambda size: {**tables(main_method(SEVEN)), GIVEN: b"".join(b"\\AAAA %d\n" % (it % 8) for it in range(size))},
+        make=lambda size: tables(main_method(SEVEN)) | {GIVEN: b"".join(b"\\AAAA %d\n" % (it % 8) for it in range(size))},
     ),
     one(
         "long-names", MOST_AML, "bytes",
@@ -464,5 +464,5 @@ SHAPES = (
     ),
     Shape("listed", 2_000_000, "entries", listed),
     # An RSDT that lists a file again and again, each byte of whose long name is four in the text
-    Shape("named-entries", 262_144, "entries", lambda size: led(["rsdp.dat", "rsdt.dat", *LED, "\x01" * 255], 4, size - 2)),
+    Shape("named-entries", 262_144, "entries", lambda count: led(["rsdp.dat", "rsdt.dat", *LED, LONG_NAME], 4, count - 2)),
 )

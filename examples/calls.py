@@ -49,8 +49,8 @@ def calls(text):
         if method is not own_of:
             own, own_of = set(), method
         # The names that stand as targets or objects
-        parts = [(place.within.word, term.word) for term, place in places(terms_in(WORD.split(line))) if place.kind == "S"]
-        for operator, name in (it for it in parts if running.NAME.fullmatch(it[1])):
+        found = [it for it in places(terms_in(WORD.split(line))) if running.NAME.fullmatch(it[0].word)]
+        for operator, name in ((place.within.word, term.word) for term, place in found if place.kind == "S"):
             counts = [kind for kind in text.namespace.may_be(scope, name, own) if isinstance(kind, int)]
             if any(counts) and (operator not in OF_METHODS or running.is_lone(behind, scope_behind, text.namespace)):
                 yield scope.path(), name, max(counts), operator, line

@@ -110,26 +110,23 @@ def a_mixed_order():
     return listed_and_checked("methods in a mixed order", tables(code, calls), checks)
 
 
-def declaring(count):
-    """A DSDT and SSDTs, each of which declares a name."""
-    return tables(*(b"\x08" + segment(number) + b"\0" for number in range(count)))
-
-
-def blocks(count):
-    """Ifs, one in the other. The predicate of the last one is a level below it."""
-    return tables(functools.reduce(lambda code, _: within_if(code), range(count), b""))
-
-
-def nested_blocks():
-    """Code outside methods goes 512 levels deep."""
-    for options in (LIST_RUNS, CHECK_RUNS):
-        yield Trial("511 Ifs", blocks(511), options)
-    yield Trial("512 Ifs", blocks(512), LIST_RUNS)
-
-
-def a_path_declared_again():
+def what_has_a_limit():
+    """Code outside methods goes 512 levels deep, where the predicate of the last If is a level below it; the most
+    files, and the most bytes; and a path that is declared again and again."""
+    ifs = functools.reduce(lambda code, _: within_if(code), range(511), b"")
+    for options in LIST_RUNS, CHECK_RUNS:
+        yield Trial("511 Ifs", tables(ifs), options)
+    yield Trial("512 Ifs", tables(within_if(ifs)), LIST_RUNS)
     for options in LIST_RUNS, LIST:
         yield Trial("a path declared 200 times", tables(*[b"\x08AAAA\0" * 100] * 2), options)
+    for count in MOST_DUMPS, MOST_DUMPS + 1:
+        yield Trial(f"{count} empty files", dict.fromkeys(map(str, range(count)), b""))
+        # A DSDT and SSDTs, each of which declares a name
+        yield Trial(f"{count} tables", tables(*(b"\x08" + segment(number) + b"\0" for number in range(count))))
+    yield Trial(f"{MOST_DUMPS} tables", tables(*(b"\x08" + segment(number) + b"\0" for number in range(MOST_DUMPS))), CHECK)
+    for size in MOST_BYTES, MOST_BYTES + 1:
+        yield Trial(f"{size} zeros", {BLOCK: bytes(size)})
+        yield Trial(f"a table in {size} bytes", {BLOCK: table(b"DSDT", SETS["cuts"][0]).ljust(size, b"\0")})
 
 
 def by_workers(name, code):
@@ -188,19 +185,6 @@ def scopes_of_no_scope():
     return by_workers("Scopes of what is no scope", code)
 
 
-def the_most_files():
-    for count in MOST_DUMPS, MOST_DUMPS + 1:
-        yield Trial(f"{count} empty files", dict.fromkeys(map(str, range(count)), b""))
-        yield Trial(f"{count} tables", declaring(count))
-    yield Trial(f"{MOST_DUMPS} tables", declaring(MOST_DUMPS), CHECK)
-
-
-def the_most_bytes():
-    for size in MOST_BYTES, MOST_BYTES + 1:
-        yield Trial(f"{size} zeros", {BLOCK: bytes(size)})
-        yield Trial(f"a table in {size} bytes", {BLOCK: table(b"DSDT", SETS["cuts"][0]).ljust(size, b"\0")})
-
-
 # ---- written down
 
 
@@ -256,8 +240,8 @@ def the_most_methods():
 
 
 LARGE = (
-    bodies_of_two_bytes, nested_blocks, a_path_declared_again, below_maybes, chains_of_aliases, scopes_of_no_scope,
-    a_mixed_order, the_most_files, the_most_bytes, a_long_body, parent_prefixes, the_most_methods,
+    bodies_of_two_bytes, what_has_a_limit, below_maybes, chains_of_aliases, scopes_of_no_scope, a_mixed_order,
+    a_long_body, parent_prefixes, the_most_methods,
 )  # fmt: skip
 
 
