@@ -436,7 +436,9 @@ SHAPES = (
     ),
     Shape(
         "given-again", 2_000_000, "lines", given=True,
-        make=lambda size: tables(main_method(SEVEN)) | {GIVEN: b"".join(b"\\AAAA %d\n" % (it % 8) for it in range(size))},
+        make=lambda size: {
+            **tables(main_method(SEVEN)), GIVEN: b"".join(b"\\AAAA %d\n" % (number % 8) for number in range(size)),
+        },
     ),
     one(
         "long-names", MOST_AML, "bytes",
@@ -464,5 +466,5 @@ SHAPES = (
     ),
     Shape("listed", 2_000_000, "entries", listed),
     # An RSDT that lists a file again and again, each byte of whose long name is four in the text
-    Shape("named-entries", 262_144, "entries", lambda count: led(["rsdp.dat", "rsdt.dat", *LED, LONG_NAME], 4, count - 2)),
+    Shape("named-entries", 262_144, "entries", lambda size: led(["rsdp.dat", "rsdt.dat", *LED, LONG_NAME], 4, size - 2)),
 )

@@ -191,7 +191,8 @@ def check_fleet(checks: Tally, room: pathlib.Path) -> None:
         written(room / "fleet" / name, {"text": text})
     (room / "fleet/pipe").mkdir()
     os.mkfifo(room / "fleet/pipe/text")
-    words = [sys.executable, "-c", ENDS, f"{TOP}/examples:{TOP}/tests", "--jobs", 2, room / "fleet", room / "fleet.facts"]
+    words = [sys.executable, "-c", ENDS, f"{TOP}/examples:{TOP}/tests", "--jobs", 2]
+    words += [room / "fleet", room / "fleet.facts"]
     found = subprocess.run(list(map(str, words)), capture_output=True, text=True, check=False, timeout=60)
     checks.is_same(f"the status of a fleet: {found.stderr}", (found.returncode, found.stderr.count("\n")), (3, 1))
     machines = dict(rows_of(room / "fleet.facts", "SELECT name, fault FROM machine WHERE fault IS NOT NULL"))

@@ -76,7 +76,7 @@ class Checks(Tally):
         rows = outcome.out.partition("\nNamespace ")[2].partition("\nDef")[0]
         # The class and the small words of a row of the tree, by the row of the listing
         marks = {
-            path: (maybe.strip().lower() or None, ", ".join(["maybe"] * bool(maybe) + [f"{it} times" for it in [times] if it]))
+            path: (maybe.strip().lower() or None, ", ".join(["maybe"] * bool(maybe) + [f"{times} times"] * bool(times)))
             for path, maybe, times in re.findall(r"^  (\\\S*) [A-Z].*?( Maybe)?(?: Times (\d+))?$", rows, re.MULTILINE)
         }
         shown_marks = {path: tuple(row) for path, row in read.rows.items() if path in marks}

@@ -20,7 +20,7 @@ import shutil
 import subprocess
 import sys
 import tempfile
-from typing import NamedTuple
+from collections import namedtuple
 
 from tally import TOP, Tally
 
@@ -50,14 +50,8 @@ OF_PROGRAM, WRONG, EMPTY_PAGES = (
 )
 
 
-class Trial(NamedTuple):
-    """A script with its words, what is put into the copy in which it runs, the PATH there, and what it has to say."""
-
-    name: str
-    words: list
-    files: dict = {}
-    path: str | None = None
-    said: list = []
+# A script with its words, what is put into the copy in which it runs, the PATH there, and what it has to say
+Trial = namedtuple("Trial", "name words files path said", defaults=[{}, None, []])
 
 
 def trials(room):

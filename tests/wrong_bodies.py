@@ -248,7 +248,7 @@ def copy_with(crate, batch, room):
         for file, old, new in it.changes:
             text = read(f"{room}/{file}")
             if text.count(old) != 1:
-                sys.exit(f"{file}: beside the other wrong bodies this stands {text.count(old)} times, and not once: {old}")
+                sys.exit(f"{file}: beside the others this stands {text.count(old)} times, and not once: {old}")
             write(f"{room}/{file}", text.replace(old, new))
     sources = sources_in(folder)
     lone = {name_of_copy(it.function.place.name, body.copy): it for it in lone_functions(sources) for body in batch}
@@ -455,7 +455,7 @@ def main():
     counts = collections.Counter()
 
     def judge(crate, bodies, kept):
-        # It begins with what `rt check` kept, if there is anything: then each check proves little more than what changed.
+        # It begins with what `rt check` kept, if anything: then each check proves little more than what changed.
         is_seeded = given.over == TOP and os.path.isdir(f"{crate.folder}/out/incremental")
         if is_seeded:
             shutil.copytree(f"{crate.folder}/out/incremental", kept)

@@ -4,7 +4,6 @@ from __future__ import annotations
 
 import re
 from collections import defaultdict, namedtuple
-from typing import NamedTuple
 
 from acpidis_tools import objects
 from acpidis_tools.listing import Line, Listing
@@ -33,13 +32,9 @@ FIELD_BITS = {
 Unit = namedtuple("Unit", "head bit width access")
 
 
-class Template(NamedTuple):
+class Template(namedtuple("Template", "place descriptors patches")):
     """A buffer of resources: the place of the word Buffer in its line, its descriptors, and for each the fields that lie in
     its bytes, by which a run may change it."""
-
-    place: int
-    descriptors: list[Descriptor]
-    patches: list[list[str]]
 
     def texts(self) -> list[str]:
         return [

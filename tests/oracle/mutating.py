@@ -5,7 +5,6 @@ import functools
 import re
 from collections import namedtuple
 from dataclasses import dataclass, field
-from typing import NamedTuple
 
 from any_run import RunNamespace, RunReader
 from dumps import HEADER_LENGTH
@@ -21,12 +20,8 @@ MOST_TERMS, LONGEST_TERM, MOST_CHANGES = 3000, 400, 4
 Span = namedtuple("Span", "start end")
 
 
-class Package(NamedTuple):
+class Package(namedtuple("Package", "at width end")):
     """Where a package length stands, its bytes, and where the package ends."""
-
-    at: int
-    width: int
-    end: int
 
     def holds(self, span):
         return self.at + self.width <= span.start and span.end <= self.end

@@ -20,7 +20,7 @@ import pathlib
 import random
 import re
 import tempfile
-from typing import NamedTuple
+from collections import namedtuple
 
 from trying import asked, built, end
 from compare import run_program, write_trial
@@ -126,12 +126,8 @@ def count_in(run, question):
     return None
 
 
-class Question(NamedTuple):
+class Question(namedtuple("Question", "method name local")):
     """A method that asks what a name takes, with a local path in front, if there is one."""
-
-    method: tuple
-    name: Name
-    local: tuple | None
 
     def __str__(self):
         local = f" behind the local {path_text(self.local)}" if self.local else ""
