@@ -1,12 +1,12 @@
 #!/usr/bin/env python3
 """Measures what README shows under "Figures", and writes that section and docs/figures.svg.
 
-usage: bench/figures.py [ACPIDIS] [--only WORD] [--runs N] [--seconds N] [--print]
+usage: bench/figures.py [ACPIDIS] [--only WORD] [--runs N] [--seconds N]
 
 ACPIDIS is the built program, out/acpidis if left out. iasl and GNU time have to be there (Debian: apt-get install
 acpica-tools time). Each program runs N times, 5 if left out, and the shortest time counts; its peak memory is that of
-one more run. A run is stopped after so many seconds, 60 if left out. With --print, or where --only leaves sets out,
-nothing is written but the section to standard output.
+one more run. A run is stopped after so many seconds, 60 if left out. Where --only leaves sets out, nothing is
+written but the section to standard output.
 
 The sets:
   10 KB, 40 KB, 1 MB  one table each, compiled by iasl from devices with resources, fields and methods as firmware has
@@ -16,6 +16,7 @@ The sets:
   one long body       a method of 1 MB: constants, texts, names and stores
 """
 import datetime
+import math
 import os
 import pathlib
 import re
@@ -24,16 +25,17 @@ import subprocess
 import sys
 import tempfile
 from collections import namedtuple
+from xml.sax.saxutils import escape
 
 import measuring
-import plot
-import sets
+import hostile_shapes as shapes
+from made_aml import tables
+from trying import PROGRAM, TOP, asked
 
-README = measuring.TOP / "README.md"
-PICTURE = measuring.TOP / "docs/figures.svg"
+README = TOP / "README.md"
+PICTURE = TOP / "docs/figures.svg"
 BEGIN, END = "<!-- by bench/figures.py -->\n", "<!-- end -->\n"
 TIME = "/usr/bin/time"
-RUNS = 5
 MOST_WORKERS = 4
 # With a higher load for each processor than these runs bring about, others work on the machine too.
 BUSY_SHARE = 0.6
@@ -41,36 +43,59 @@ BUSY_SHARE = 0.6
 STOLEN_SHARE = 0.03
 DEVICES_OF_A_BUS = 16
 OUTERMOST = b"X000"
+# The picture: seconds by set on a logarithmic axis
+WIDTH, LEFT, RIGHT = 860, 130, 110
+ABOVE, BAR, GAP, FOOT = 62, 15, 14, 44
+LEAST, MOST = 0.001, 100.0
+INK, GRID, PAPER = "#222222", "#dddddd", "#ffffff"
+COLOURS = ("#0b5fa5", "#7db8e8", "#d9822b")
 
 # A device of the compiled sets, as firmware has them, by its number
-DEVICE = (measuring.TOP / "bench/device.asl").read_text()
+DEVICE = (TOP / "bench/device.asl").read_text()
+MIXED = bytes.fromhex(
+    "700a0560"  # Store (0x05, Local0)
+    "700b341261"  # Store (0x1234, Local1)
+    "700c785634125c5f4f535f"  # Store (0x12345678, \_OS_)
+    "700e080706050403020162"  # Store (0x0102030405060708, Local2)
+    "72606162"  # Add (Local0, Local1, Local2)
+    "700d61626364656667680063"  # Store ("abcdefgh", Local3)
+    "a45f524556"  # Return (_REV)
+)
 
 
-def compiled(devices: int) -> bytes:
-    """A DSDT with so many devices, sixteen to a bus, by iasl."""
+def compiled(devices: int, times: int = 1) -> dict:
+    """A set of a DSDT with so many devices, sixteen to a bus, by iasl, as often, each time with another outermost
+    device."""
     text = 'DefinitionBlock ("", "DSDT", 2, "BENCH", "FIGURES", 1) {\nDevice (\\_SB.' + OUTERMOST.decode() + ") {\n"
     for first in range(0, devices, DEVICES_OF_A_BUS):
         inner = [DEVICE % {"number": number} for number in range(min(DEVICES_OF_A_BUS, devices - first))]
         text += f"Device (B{first // DEVICES_OF_A_BUS:03X}) {{ Name (_ADR, 0x{first:08X}) {''.join(inner)} }}\n"
-    return sets.compiled(text + "} }\n")
-
-
-def repeated(table: bytes, times: int) -> bytes:
-    """A table with the terms of this one so many times, each with another outermost device."""
-    code = table[sets.HEADER_BYTES:]
+    with tempfile.TemporaryDirectory() as folder:
+        source = pathlib.Path(folder) / "bench.asl"
+        source.write_text(text + "} }\n")
+        subprocess.run(["iasl", "-p", "bench", source.name], cwd=folder, check=True, capture_output=True)
+        made = source.with_suffix(".aml").read_bytes()
+    if times == 1:
+        return {"dsdt.dat": made}
+    code = made[shapes.HEADER_BYTES:]
     assert code.count(OUTERMOST) == 1
-    return sets.table(b"".join(code.replace(OUTERMOST, b"X%03d" % number) for number in range(times)))
+    return tables(b"".join(code.replace(OUTERMOST, b"X%03d" % number) for number in range(times)))
+
+
+def long_body(size: int) -> dict:
+    """A set of a table of so many bytes with one method, in which the same terms stand again and again."""
+    return tables(shapes.method(b"MAIN", 0, MIXED * ((size - shapes.HEADER_BYTES - 10) // len(MIXED))))
 
 
 # The name of each set, and what makes its files. A device has some 420 bytes.
 SETS = (
-    ("10 KB", sets.one(lambda: compiled(24))),
-    ("40 KB", sets.one(lambda: compiled(95))),
-    ("1 MB", sets.one(lambda: compiled(2_360))),
-    ("16 MB", sets.one(lambda: repeated(compiled(2_360), 16))),
-    ("20,000 methods", sets.one(lambda: sets.many_methods(20_000))),
-    ("101 tables", sets.SETS["calls-101"]),
-    ("one long body", sets.one(lambda: sets.long_body(sets.MIXED, sets.SIZES["1"]))),
+    ("10 KB", lambda: compiled(24)),
+    ("40 KB", lambda: compiled(95)),
+    ("1 MB", lambda: compiled(2_360)),
+    ("16 MB", lambda: compiled(2_360, 16)),
+    ("20,000 methods", lambda: tables(shapes.many_methods(20_000))),
+    ("101 tables", lambda: shapes.calling_tables(101, 20, 2, b"\x08\x02")),
+    ("one long body", lambda: long_body(1 << 20)),
 )
 
 
@@ -92,14 +117,14 @@ def best(command, folder, asked):
     return answer._replace(peak=int((folder / "peak").read_text().split()[-1]) * 1024)
 
 
-def figures_of(name, make, program, asked):
+def figures_of(name, make, words):
     """The figures of a set, in a folder that is gone afterwards."""
     with tempfile.TemporaryDirectory() as room:
         tables, beside = pathlib.Path(room) / "tables", pathlib.Path(room) / "beside"
         beside.mkdir()
         size = measuring.write(tables, make)
         files = sorted(shutil.copy(path, beside) for path in tables.iterdir())
-        commands = [[program, "--workers", str(count), str(tables)] for count in (1, MOST_WORKERS)]
+        commands = [[asked.program, "--workers", str(count), str(tables)] for count in (1, MOST_WORKERS)]
         commands.append(["iasl", "-d", *(os.path.basename(file) for file in files)])
         return Figures(name, size, *(best(command, beside, asked) for command in commands))
 
@@ -143,23 +168,87 @@ def section(all_figures, asked, loads, stolen):
     return text + "\n"
 
 
+# ---- the picture
+
+
+def across(seconds):
+    """How far to the right so many seconds stand."""
+    share = math.log(max(seconds, LEAST) / LEAST) / math.log(MOST / LEAST)
+    return LEFT + share * (WIDTH - LEFT - RIGHT)
+
+
+def text(x, y, words, anchor="start", colour=INK):
+    return f'<text x="{x:.1f}" y="{y:.1f}" text-anchor="{anchor}" fill="{colour}">{escape(words)}</text>\n'
+
+
+def rectangle(x, y, width, height, colour, more=""):
+    return f'<rect x="{x:.1f}" y="{y:.1f}" width="{width:.1f}" height="{height:.1f}" fill="{colour}"{more}/>\n'
+
+
+def short(seconds):
+    return f"{seconds * 1000:.0f} ms" if seconds < 1 else f"{seconds:.1f} s"
+
+
+def bar(y, answer, limit, colour):
+    """One bar with its label; it has an outline alone where there was no answer."""
+    if answer is None:
+        width = across(limit) - LEFT
+        outline = f' stroke="{colour}" stroke-dasharray="4 3"'
+        label = text(LEFT + width + 5, y + 11, f"not in {limit:g} s")
+        return rectangle(LEFT, y, width, BAR - 2, PAPER, outline) + label
+    width = max(across(answer.seconds) - LEFT, 1)
+    return rectangle(LEFT, y, width, BAR - 2, colour) + text(LEFT + width + 5, y + 11, short(answer.seconds))
+
+
+def legend(labels):
+    drawn, x = "", LEFT
+    for label, colour in zip(labels, COLOURS):
+        drawn += rectangle(x, 34, 12, 12, colour) + text(x + 17, 44.5, label)
+        x += 45 + 7 * len(label)
+    return drawn
+
+
+def axis(bottom):
+    drawn, seconds = "", LEAST
+    while seconds < MOST * 1.01:
+        x = across(seconds)
+        drawn += f'<line x1="{x:.1f}" y1="{ABOVE - 6}" x2="{x:.1f}" y2="{bottom}" stroke="{GRID}"/>\n'
+        drawn += text(x, bottom + 16, f"{seconds * 1000:g} ms" if seconds < 0.99 else f"{seconds:.0f} s", "middle")
+        seconds *= 10
+    return drawn
+
+
+def picture(all_figures, limit, workers):
+    group = 3 * BAR + GAP
+    bottom = ABOVE + group * len(all_figures) - GAP + 6
+    height = bottom + FOOT
+    drawn = f'<svg xmlns="http://www.w3.org/2000/svg" viewBox="0 0 {WIDTH} {height}" width="{WIDTH}" height="{height}"'
+    drawn += ' font-family="sans-serif" font-size="12" role="img">\n'
+    drawn += "<title>Seconds by set: acpidis and iasl -d</title>\n" + rectangle(0, 0, WIDTH, height, PAPER)
+    drawn += text(LEFT, 20, "Seconds for a whole run, on a logarithmic axis; shorter is faster")
+    drawn += legend(("acpidis, 1 worker", f"acpidis, {workers} workers", "iasl -d"))
+    drawn += axis(bottom)
+    for number, figures in enumerate(all_figures):
+        y = ABOVE + number * group
+        drawn += text(LEFT - 10, y + group / 2 - 3, figures.name, "end")
+        for place, answer in enumerate((figures.alone, figures.together, figures.iasl)):
+            drawn += bar(y + place * BAR, answer, limit, COLOURS[place])
+    return drawn + "</svg>\n"
+
+
 def main():
-    words = measuring.command_line(__doc__)
-    words.add_argument("--runs", type=int, default=RUNS)
-    words.add_argument("--print", action="store_true")
-    asked = words.parse_args()
-    program = shutil.which(os.path.abspath(asked.acpidis)) or sys.exit(f"{asked.acpidis} isn't built")
+    words = asked(__doc__, program=PROGRAM, only="", runs=5, seconds=60.0)
     if shutil.which("iasl") is None or not os.access(TIME, os.X_OK):
         sys.exit("iasl or GNU time isn't installed: apt-get install acpica-tools time")
     all_figures, loads, begun = [], [], measuring.processor_time()
     for name, make in SETS:
-        if asked.only in name:
+        if words.only in name:
             loads.append(os.getloadavg()[0])
-            all_figures.append(figures_of(name, make, program, asked))
-            print(row(all_figures[-1], asked.seconds), end="", file=sys.stderr, flush=True)
+            all_figures.append(figures_of(name, make, words))
+            print(row(all_figures[-1], words.seconds), end="", file=sys.stderr, flush=True)
     stolen = measuring.stolen_since(begun)
-    text = section(all_figures, asked, loads, stolen)
-    if asked.print or asked.only:
+    text = section(all_figures, words, loads, stolen)
+    if words.only:
         print(text, end="")
         return
     before, mark, rest = README.read_text().partition(BEGIN)
@@ -167,7 +256,7 @@ def main():
     if not mark or not end:
         sys.exit("README.md has no place for the figures")
     README.write_text(before + mark + text + end + after)
-    PICTURE.write_text(plot.picture(all_figures, asked.seconds, MOST_WORKERS))
+    PICTURE.write_text(picture(all_figures, words.seconds, MOST_WORKERS))
 
 
 if __name__ == "__main__":

@@ -1,9 +1,11 @@
 """The sets of bench/hostile.py: a DSDT of at most 16,777,216 bytes each, or many files."""
+from functools import partial, reduce
 from typing import Callable, NamedTuple
 
 from measuring import Sparse
-from sets import DENSE, HEADER_BYTES, MOST_BYTES, NAMED, SEGMENTS, device, each, method, mixed, package, segment, table
+from made_aml import each, mixed, packed, segment, table, tables
 
+MOST_BYTES, HEADER_BYTES, SEGMENTS = 16_777_216, 36, 255
 # A file of a set that is no dump, since it lies in a folder of its own.
 OPTION, GIVEN = "--externals", "given/externals.txt"
 ANY_RUN = "--any-run"
@@ -13,6 +15,7 @@ LEAF, NEAR, FRIEND, OTHER = b"LEAF", b"NEAR", b"FRND", b"OTHR"
 MOST_AML, DEEPEST = MOST_BYTES - HEADER_BYTES, 510 * SEGMENTS
 # So deep that Devices of long names still stand below.
 DEEP = 503 * SEGMENTS
+DENSE = bytes.fromhex("a472606100")  # Return (Add (Local0, Local1, ))
 
 
 class Shape(NamedTuple):
@@ -32,17 +35,23 @@ class Shape(NamedTuple):
     def options(self, folder):
         return [OPTION, str(folder / GIVEN)] if self.given else [ANY_RUN] if self.any_run else []
 
-    def asked_options(self):
-        """The options that its runs have, without their values."""
-        return [option for option, is_asked in ((OPTION, self.given), (ANY_RUN, self.any_run)) if is_asked]
-
 
 # ---- pieces
 
+package = partial(packed, width=1)
 
-def one(make):
-    """A set of one DSDT of this AML."""
-    return lambda size: {"dsdt.dat": table(make(size))}
+
+def one(name, size, unit, make, **more):
+    """A shape of one DSDT, of this AML."""
+    return Shape(name, size, unit, lambda count: tables(make(count)), **more)
+
+
+def method(name, flags, body):
+    return package(b"\x14", name + bytes([flags]) + body)
+
+
+def device(code, name=b"DEV0"):
+    return package(b"\x5b\x82", name + code)
 
 
 def within(segments, code):
@@ -56,9 +65,7 @@ def within(segments, code):
 
 def around(levels, wrap, code):
     """Code in so many terms, one in the other."""
-    for _ in range(levels):
-        code = wrap(code)
-    return code
+    return reduce(lambda inner, _: wrap(inner), range(levels), code)
 
 
 def name(segment, value=b"\0"):
@@ -82,10 +89,6 @@ def scope(path, code):
     return package(b"\x10", path + code)
 
 
-# A Name that is used, and a call with seven arguments.
-LEAF_NAME, SEVEN = name(LEAF), b"AAAA" + b"\x60" * 7
-
-
 def main_method(body):
     return method(RUN, 0, body)
 
@@ -97,6 +100,14 @@ def named(count):
 
 def uses(count):
     return each(mixed(count))
+
+
+def methods(count, body):
+    return each(count, lambda it: method(it, 0, body))
+
+
+# A Name that is used, a call with seven arguments, and a path as long as it can be.
+LEAF_NAME, SEVEN, LONG_PATH = name(LEAF), b"AAAA" + b"\x60" * 7, b"\x5c\x2f\xff" + each(SEGMENTS)
 
 
 # ---- AML by how much of it there is, and by how deep it stands
@@ -132,9 +143,9 @@ def upward_turning(count, depth):
     return LEAF_NAME + around(depth, lambda code: device(before + code, NEAR), main_method(LEAF * count))
 
 
-def regions_of_nothing(count, depth):
-    """Regions in a deep scope, with an offset and a length that nothing declares."""
-    return within(depth, each(count, lambda it: region(it, NOTHING + NOTHING)))
+def regions(count, depth, value):
+    """Regions in a deep scope, with a name as their offset and their length."""
+    return within(depth, each(count, lambda it: region(it, value + value)))
 
 
 def deep_methods(count, depth):
@@ -143,22 +154,9 @@ def deep_methods(count, depth):
     return within(depth, b"".join(calls))
 
 
-def deep_owners(count, depth, own):
-    """A method there, and Devices with a method each, in a Device of so many segments."""
-    return within(depth, main_method(b"") + within(own, each(count, lambda it: device(main_method(b""), it))))
-
-
-def deep_aliases_upward(count, depth, share=None):
-    """Aliases there of a name at the root, or of one that stands a half or a third of the way down."""
-    above = depth // share if share else 0
-    return within(above, LEAF_NAME + within(depth - above, each(count, alias)))
-
-
-def deep_unsettled(count, depth):
-    """Names below paths that nothing but an External's path has, each before an Alias of a name at the root."""
-    externals = each(count, lambda it: b"\x15\x5c\x2f\x03X" + it[1:] + b"YYYYZZZZ\0\0")
-    names = each(count, lambda it: name(b"\x5c\x2eX" + it[1:] + b"WWWW") + alias(it))
-    return LEAF_NAME + externals + within(depth, names)
+def deep_owners(count, own):
+    """A method in a deep scope, and Devices with a method each, in a Device of so many segments."""
+    return within(DEEP, main_method(b"") + within(own, each(count, lambda it: device(main_method(b""), it))))
 
 
 def alias_chain(count):
@@ -171,12 +169,6 @@ def deep_body(depth, body, beside=b""):
     return within(depth, LEAF_NAME + beside + main_method(body))
 
 
-def deep_local_uses(count, depth):
-    """Uses of the last of a thousand names that the method declares beside itself."""
-    declared = each(999, lambda it: name(b"^" + it))
-    return deep_body(depth, declared + name(b"^NEAR") + b"^NEAR" * count)
-
-
 def deep_root_uses(count, depth):
     """Uses of a name at the root that the method declares, which may begin as its scope does."""
     return deep_body(depth, name(b"\\NEAR") + b"\\NEAR" * count)
@@ -187,6 +179,11 @@ def field(count):
     return package(b"\x5b\x81", LEAF + b"\0" + each(count, lambda it: it + b"\x08"))
 
 
+def locals_of(count):
+    """A method that declares so many names, and uses each."""
+    return method(b"MAIN", 0, each(mixed(count), lambda it: name(it) + b"\x70\1" + it))
+
+
 def nested(levels, segments):
     path = b"\x2f" + bytes([segments]) + each(segments)
     return method(b"GLOB", 0, b"") + around(levels, lambda code: device(code, path), main_method(b"GLOB"))
@@ -194,13 +191,12 @@ def nested(levels, segments):
 
 def nots(count, levels):
     """Methods of so many LNots, one in the other."""
-    return each(count, lambda it: method(it, 0, b"\x92" * levels + b"\x60"))
+    return methods(count, b"\x92" * levels + b"\x60")
 
 
 def packages(count, levels):
     """Methods of Packages of Packages."""
-    inner = around(levels, lambda code: package(b"\x12", b"\x01" + code), b"\0")
-    return each(count, lambda it: method(it, 0, inner))
+    return methods(count, around(levels, lambda code: package(b"\x12", b"\x01" + code), b"\0"))
 
 
 def indented(count, levels):
@@ -216,98 +212,53 @@ def blocks(count, levels):
     return around(levels, block, named(count))
 
 
-def branches(count):
-    """Methods that are declared in both branches, and a call of each."""
-    methods = each(mixed(count), lambda it: method(it, 1, b""))
-    return block(methods) + package(b"\xa1", methods) + main_method(each(mixed(count), lambda it: it + b"\x01"))
-
-
-def devices_in_blocks(count):
-    """Devices with a method and a name, each in an If of its own, and a call of each method."""
-    inside = method(NEAR, 1, b"") + LEAF_NAME
-    calls = each(mixed(count), lambda it: b"\\\x2e" + it + NEAR + b"\x01")
-    return each(mixed(count), lambda it: block(device(inside, it))) + main_method(calls)
-
-
-def maybes(count, depth):
-    """Uses of a name at the root in a method of a scope of so many segments, in each of which it may stand too."""
-    return LEAF_NAME + around(depth, lambda code: device(block(LEAF_NAME) + code, NEAR), main_method(LEAF * count))
-
-
 def names_outside(count, depth):
     """A name at the root, as so many terms of a deep scope."""
     return LEAF_NAME + within(depth, LEAF * count)
 
 
-def again(count):
-    """Two tables that declare one name again and again."""
-    code = LEAF_NAME * (count // 2)
-    return {"dsdt.dat": table(code), "ssdt1.dat": table(code, b"SSDT")}
-
-
 # ---- much of the same
 
 
-def tiny_methods(count):
-    return each(count, lambda it: method(it, 0, b""))
+def many_methods(count):
+    return each(count, lambda name: method(name, 2, bytes.fromhex("7068607261696aa460")))
 
 
 def buffer(size):
     return name(b"BUF_", package(b"\x11", b"\x0e" + bytes(8) + b"\xff" * (size - HEADER_BYTES - 32)))
 
 
-def aliases(count):
-    """A chain of Aliases of a method, and calls by the first thousand of them."""
-    calls = each(mixed(1000), lambda it: it + b"\x60")
-    return method(segment(0), 1, b"") + alias_chain(count) + main_method(calls)
-
-
-def long_names(size):
-    path = b"\x5c\x2f\xff" + each(SEGMENTS)
-    return name(path) + main_method(path * ((size - 2 * len(path) - 64) // len(path)))
-
-
-def given(count):
-    """As many uses of names as lines that give them counts."""
-    return {"dsdt.dat": table(main_method(uses(count))), GIVEN: each(mixed(count), lambda it: b"\\%s 0\n" % it)}
-
-
-def given_again(count):
-    lines = (b"\\AAAA %d\n" % (number % 8) for number in range(count))
-    return {"dsdt.dat": table(main_method(SEVEN)), GIVEN: b"".join(lines)}
-
-
 # ---- many files
 
 
 def sparse_files(count, size):
-    data = bytearray(b"OTHR" + size.to_bytes(4, "little") + b"\x02\0BENCH HOSTILE \x01\0\0\0BNCH\x01\0\0\0")
-    data[9] = -sum(data) % 256
-    files = {f"other{number}.dat": Sparse(bytes(data), size) for number in range(count - 1)}
-    return {"dsdt.dat": table(main_method(b"")), **files}
+    head = bytearray(table(b"OTHR", b""))
+    head[4:8] = size.to_bytes(4, "little")
+    head[9] = (head[9] - sum(head)) % 256
+    files = {f"other{number}.dat": Sparse(bytes(head), size) for number in range(count - 1)}
+    return {**tables(main_method(b"")), **files}
 
 
-def calling_files(count, methods):
-    """Tables of methods, each of which calls one of the next table."""
-    files = {}
+def calling_tables(count, size, arguments, told=None):
+    """Tables of so many methods, each of which calls one of the next table, which an External names where it is
+    told."""
+    codes = []
     for number in range(count):
-        called = (number + 1) % count * methods
-        bodies = (b"\xa4" + segment(called + index) + b"\x68" for index in range(methods))
-        code = b"".join(method(segment(number * methods + index), 1, body) for index, body in enumerate(bodies))
-        files["dsdt.dat" if not number else f"ssdt{number}.dat"] = table(code, b"SSDT" if number else b"DSDT")
-    return files
+        called = [segment((number + 1) % count * size + index) for index in range(size)]
+        code = b"".join(b"\x15" + it + told for it in called) if told else b""
+        for index, it in enumerate(called):
+            code += method(segment(number * size + index), arguments, b"\xa4" + it + b"\x68\x69"[:arguments])
+        codes.append(code)
+    return tables(*codes)
 
 
-def madt(size):
-    records = b"\xff\x02" * ((size - HEADER_BYTES - 8) // 2)
-    return {"dsdt.dat": table(b""), "apic.dat": table(bytes(8) + records, b"APIC")}
+ADDRESS, LED, LONG_NAME = 0x1000, ["facp.dat", "dsdt.dat"], "\x01" * 255
 
 
-ADDRESS = 0x1000
-
-
-def led(names, width, entries):
-    """A root pointer, a list of entries of so many bytes each, a FADT, a DSDT and SSDTs of these names, with a map."""
+def led(names, width, more):
+    """A root pointer, a list of entries of so many bytes each, a FADT, a DSDT and SSDTs of these names, with a map.
+    The list has the FADT, each SSDT, and the last of them so many times more."""
+    entries = names[2:3] + names[4:] + names[-1:] * more
     places = {it: ADDRESS * (number + 1) for number, it in enumerate(names)}
     address = {it: place.to_bytes(width, "little") for it, place in places.items()}
     root = bytearray(b"RSD PTR \0BENCH " + (b"\x02" + bytes(4) if width == 8 else b"\0" + address[names[1]]))
@@ -317,41 +268,32 @@ def led(names, width, entries):
         root[32] = -sum(root) % 256
     dsdt, content = address["dsdt.dat"], b"".join(address[it] for it in entries)
     return {
-        names[0]: bytes(root),
-        names[1]: table(content, names[1][:4].upper().encode()),
-        names[2]: table(bytes(104) + dsdt if width == 8 else bytes(4) + dsdt + bytes(104), b"FACP"),
-        names[3]: table(b""),
-        **{it: table(b"", b"SSDT") for it in names[4:]},
+        names[0]: bytes(root), names[1]: table(names[1][:4].upper().encode(), content),
+        names[2]: table(b"FACP", bytes(104) + dsdt if width == 8 else bytes(4) + dsdt + bytes(104)),
+        names[3]: table(b"DSDT", b""), **{it: table(b"SSDT", b"") for it in names[4:]},
         "tables.map": "".join(f"{places[it]:016X} {it}\n" for it in names).encode(),
     }
 
 
 def listed(entries):
     """Five hundred SSDTs with addresses, and an XSDT that lists so many, the last of them again and again."""
-    names = ["rsdp.dat", "xsdt.dat", "facp.dat", "dsdt.dat", *(f"ssdt{number}.dat" for number in range(500))]
-    return led(names, 8, names[2:3] + names[4:] + names[-1:] * (entries - 501))
-
-
-def named_entries(entries):
-    """An RSDT that lists a file again and again, each byte of whose long name is four in the text."""
-    names = ["rsdp.dat", "rsdt.dat", "facp.dat", "dsdt.dat", "\x01" * 255]
-    return led(names, 4, names[2:3] + names[4:] * (entries - 1))
+    return led(["rsdp.dat", "xsdt.dat", *LED, *(f"ssdt{number}.dat" for number in range(500))], 8, entries - 501)
 
 
 # ---- all of them
 
 
-def both(name, make, count, unit, depth, is_run=False):
+def both(name, count, unit, depth, make, any_run=False):
     """A shape by how many there are, so deep, and one by how deep they stand, so many."""
-    yield Shape(name, count, unit, one(lambda size: make(size, depth)), any_run=is_run)
-    levels = "levels" if is_run else "segments"
-    yield Shape(f"{name}-deep", depth, levels, one(lambda size: make(count, size)), any_run=is_run)
+    yield one(name, count, unit, lambda size: make(size, depth), any_run=any_run)
+    unit = "levels" if any_run else "segments"
+    yield one(f"{name}-deep", depth, unit, lambda size: make(count, size), any_run=any_run)
 
 
 # AML of so many, in a scope as deep as the second number says.
 DEEP_TERMS = (
     ("deep-names", 2_000, "names", 10_000, named),
-    ("deep-locals", 2_000, "names", 10_000, NAMED["locals"]),
+    ("deep-locals", 2_000, "names", 10_000, locals_of),
     ("deep-devices", 2_000, "devices", 10_000, lambda count: each(count, lambda it: device(main_method(b""), it))),
     ("deep-pairs", 1_000, "devices", DEEP, lambda count: each(count, lambda it: device(device(main_method(b"")), it))),
     ("deep-aliases", 2_000, "names", 10_000, lambda count: name(segment(0)) + alias_chain(count)),
@@ -369,116 +311,160 @@ DEEP_BODIES = (
     # Scopes of the parent that declare nothing
     ("deep-scopes", 10_000, "terms", 5_000, lambda count: (b"", device(b"\x10\x03^\0" * count))),
 )
-# In the scope, with something at the root: in front of it, or behind.
-BESIDE_ROOT = (
+# AML of so many, so deep: with something at the root, in front of a scope, or behind.
+DEEP_SETS = (
+    ("upward", 100_000, "names", 1000, upward),
+    ("upward-crowded", 100_000, "names", 1000, upward_crowded),
+    ("upward-local", 2_000, "names", 1000, lambda count, depth: upward(count, depth, name(b"LOCL"))),
+    ("upward-locals", 5_700, "names", 5_700, upward_with_locals),
+    ("upward-friends", 5_700, "names", 5_700, lambda count, depth: upward_with_locals(count, depth, FRIEND)),
     # A Device at the root behind methods of the scope, which is then no more the last that was opened
-    ("deep-methods-left", 2_000, "methods", lambda count, depth: deep_methods(count, depth) + device(named(1))),
+    (
+        "deep-methods-left", 2_000, "methods", 10_000,
+        lambda count, depth: deep_methods(count, depth) + device(named(1)),
+    ),
     # Names, each behind a Scope of a Device at the root with such a name
     (
-        "deep-returns", 2_000, "names",
+        "deep-returns", 2_000, "names", 10_000,
         lambda count, depth: device(b"") + within(depth, each(count, lambda it: scope(b"\\DEV0", name(it)) + name(it))),
     ),
     # Scopes of a Device at the root, each with a name
     (
-        "deep-scopes-upward", 2_000, "terms",
+        "deep-scopes-upward", 2_000, "terms", 10_000,
         lambda count, depth: device(b"") + within(depth, each(count, lambda it: scope(b"DEV0", name(it)))),
     ),
-    ("deep-aliases-upward", 2_000, "names", deep_aliases_upward),
-    ("deep-aliases-halfway", 2_000, "names", lambda count, depth: deep_aliases_upward(count, depth, 2)),
-    ("deep-aliases-low", 2_000, "names", lambda count, depth: deep_aliases_upward(count, depth, 3)),
-    ("deep-unsettled", 2_000, "names", deep_unsettled),
+    # Aliases there of a name at the root, or of one that stands a half or a third of the way down
+    *(
+        (
+            f"deep-aliases-{where}", 2_000, "names", 10_000,
+            lambda size, deep, cut=cut: within(deep // cut, LEAF_NAME + within(deep - deep // cut, each(size, alias))),
+        )
+        for where, cut in (("upward", 1_000_000), ("halfway", 2), ("low", 3))
+    ),
+    # Names below paths that nothing but an External's path has, each before an Alias of a name at the root
+    (
+        "deep-unsettled", 2_000, "names", 10_000,
+        lambda count, depth: LEAF_NAME + each(count, lambda it: b"\x15\x5c\x2f\x03X" + it[1:] + b"YYYYZZZZ\0\0")
+        + within(depth, each(count, lambda it: name(b"\x5c\x2eX" + it[1:] + b"WWWW") + alias(it))),
+    ),
     # Devices, each with an Alias of a name at the root
     (
-        "deep-devices-aliases", 2_000, "devices",
+        "deep-devices-aliases", 2_000, "devices", 10_000,
         lambda count, depth: LEAF_NAME + within(depth, each(count, lambda it: device(alias(it), it))),
     ),
     # Uses of an Alias of a method in the scope
     (
-        "deep-alias", 100_000, "names",
+        "deep-alias", 100_000, "names", 10_000,
         lambda count, depth: within(depth, method(segment(0), 0, b"") + alias(b"\\ALIA", segment(0)))
         + main_method(b"ALIA" * count),
     ),
+    ("deep-methods", 2_000, "methods", 10_000, deep_methods),
+    # Uses of the last of a thousand names that the method declares beside itself
+    (
+        "deep-local-uses", 20_000, "names", 10_000,
+        lambda size, deep: deep_body(deep, each(999, lambda it: name(b"^" + it)) + name(b"^NEAR") + b"^NEAR" * size),
+    ),
+    ("deep-root-uses", 100_000, "names", 10_000, deep_root_uses),
+    *((*row, lambda count, depth, make=make: within(depth, make(count))) for *row, make in DEEP_TERMS),
+    *((*row, lambda count, depth, make=make: deep_body(depth, *make(count))) for *row, make in DEEP_BODIES),
 )
 
 SHAPES = (
-    Shape("nested", 510, "levels", one(lambda count: nested(count, SEGMENTS)), True),
-    Shape("nested-short", 510, "levels", one(lambda count: nested(count, 1)), True),
-    Shape("nested-long", 254, "segments", one(lambda count: nested(510, count))),
-    *both("upward", upward, 100_000, "names", 1000),
-    Shape("upward-deepest", 100_000, "names", one(lambda count: upward(count, DEEPEST))),
-    *both("upward-crowded", upward_crowded, 100_000, "names", 1000),
-    Shape("upward-turning", 100_000, "names", one(lambda count: upward_turning(count, 500))),
-    *both("upward-local", lambda count, depth: upward(count, depth, name(b"LOCL")), 2_000, "names", 1000),
-    *both("upward-locals", upward_with_locals, 5_700, "names", 5_700),
-    *both("upward-friends", lambda count, depth: upward_with_locals(count, depth, FRIEND), 5_700, "names", 5_700),
-    Shape("upward-outside", 100_000, "names", one(lambda count: regions_of_nothing(count // 2, 1000))),
-    *(
-        shape
-        for title, count, unit, depth, make in DEEP_TERMS
-        for shape in both(title, lambda count, depth, make=make: within(depth, make(count)), count, unit, depth)
+    one("nested", 510, "levels", lambda count: nested(count, SEGMENTS), is_square=True),
+    one("nested-short", 510, "levels", lambda count: nested(count, 1), is_square=True),
+    one("nested-long", 254, "segments", lambda count: nested(510, count)),
+    *(shape for row in DEEP_SETS for shape in both(*row)),
+    one("upward-deepest", 100_000, "names", lambda count: upward(count, DEEPEST)),
+    one("upward-turning", 100_000, "names", lambda count: upward_turning(count, 500)),
+    one("upward-outside", 100_000, "names", lambda count: regions(count // 2, 1000, NOTHING)),
+    one("deep-owners", 10_000, "devices", lambda count: deep_owners(count, 16)),
+    one("deep-owners-run", 5_000, "devices", lambda count: deep_owners(count, SEGMENTS), any_run=True),
+    one("deep-outside", 2_000, "names", lambda count: regions(count // 2, 10_000, NOTHING)),
+    one("locals", 1_000_000, "names", locals_of),
+    one("package", 1_000_000, "names", lambda count: name(b"PKG_", package(b"\x12", b"\0" + uses(count)))),
+    one("package-body", 1_000_000, "names", lambda count: main_method(package(b"\x12", b"\0" + uses(count)))),
+    # A chain of Aliases of a method, and calls by the first thousand of them
+    one(
+        "aliases", 1_000_000, "names",
+        lambda count: method(segment(0), 1, b"") + alias_chain(count)
+        + main_method(each(mixed(1000), lambda it: it + b"\x60")),
     ),
-    *(
-        shape
-        for title, count, unit, depth, make in DEEP_BODIES
-        for shape in both(title, lambda count, depth, make=make: deep_body(depth, *make(count)), count, unit, depth)
-    ),
-    *(shape for title, count, unit, make in BESIDE_ROOT for shape in both(title, make, count, unit, 10_000)),
-    *both("deep-methods", deep_methods, 2_000, "methods", 10_000),
-    Shape("deep-owners", 10_000, "devices", one(lambda count: deep_owners(count, DEEP, 16))),
-    Shape("deep-owners-run", 5_000, "devices", one(lambda count: deep_owners(count, DEEP, SEGMENTS)), any_run=True),
-    Shape("deep-outside", 2_000, "names", one(lambda count: regions_of_nothing(count // 2, 10_000))),
-    *both("deep-local-uses", deep_local_uses, 20_000, "names", 10_000),
-    *both("deep-root-uses", deep_root_uses, 100_000, "names", 10_000),
-    Shape("locals", 1_000_000, "names", one(NAMED["locals"])),
-    Shape("package", 1_000_000, "names", one(lambda count: name(b"PKG_", package(b"\x12", b"\0" + uses(count))))),
-    Shape("package-body", 1_000_000, "names", one(lambda count: main_method(package(b"\x12", b"\0" + uses(count))))),
-    Shape("aliases", 1_000_000, "names", one(aliases)),
-    Shape(
+    one(
         "external", 1_000_000, "terms",
-        one(lambda count: b"".join(b"\x15AAAA\x08" + bytes([it % 8]) for it in range(count)) + main_method(SEVEN)),
+        lambda count: b"".join(b"\x15AAAA\x08" + bytes([it % 8]) for it in range(count)) + main_method(SEVEN),
     ),
     # As many Externals, each of a path of its own, as uses of them
-    Shape(
+    one(
         "externals", 1_000_000, "names",
-        one(lambda count: each(count, lambda it: b"\x15" + it + b"\x08\0") + main_method(uses(count))),
+        lambda count: each(count, lambda it: b"\x15" + it + b"\x08\0") + main_method(uses(count)),
     ),
-    *both("blocks", blocks, 200_000, "names", 500, is_run=True),
-    Shape("branches", 200_000, "methods", one(branches), any_run=True),
-    Shape("devices-in-blocks", 200_000, "devices", one(devices_in_blocks), any_run=True),
-    *both("maybes", maybes, 100_000, "names", 500, is_run=True),
-    Shape("names-outside", 8_000, "names", one(lambda count: names_outside(count, DEEPEST)), any_run=True),
+    *both("blocks", 200_000, "names", 500, blocks, any_run=True),
+    # Methods that are declared in both branches, and a call of each
+    one(
+        "branches", 200_000, "methods",
+        lambda count: block(each(mixed(count), lambda it: method(it, 1, b"")))
+        + package(b"\xa1", each(mixed(count), lambda it: method(it, 1, b"")))
+        + main_method(each(mixed(count), lambda it: it + b"\x01")), any_run=True,
+    ),
+    # Devices with a method and a name, each in an If of its own, and a call of each method
+    one(
+        "devices-in-blocks", 200_000, "devices",
+        lambda count: each(mixed(count), lambda it: block(device(method(NEAR, 1, b"") + LEAF_NAME, it)))
+        + main_method(each(mixed(count), lambda it: b"\\\x2e" + it + NEAR + b"\x01")), any_run=True,
+    ),
+    # Uses of a name at the root in a method of a scope of so many segments, in each of which it may stand too
+    *both(
+        "maybes", 100_000, "names", 500,
+        lambda count, depth: LEAF_NAME
+        + around(depth, lambda code: device(block(LEAF_NAME) + code, NEAR), main_method(LEAF * count)), any_run=True,
+    ),
+    one("names-outside", 8_000, "names", lambda count: names_outside(count, DEEPEST), any_run=True),
     # Regions in a deep scope, whose offset and length are a name at the root
-    Shape(
-        "regions-outside", 1_000, "regions",
-        one(lambda count: LEAF_NAME + within(DEEPEST, each(count, lambda it: region(it, LEAF + LEAF)))), any_run=True,
-    ),
-    Shape("terms-outside", 1_000_000, "names", one(lambda count: names_outside(count, 2 * SEGMENTS)), any_run=True),
+    one("regions-outside", 1_000, "regions", lambda count: LEAF_NAME + regions(count, DEEPEST, LEAF), any_run=True),
+    one("terms-outside", 1_000_000, "names", lambda count: names_outside(count, 2 * SEGMENTS), any_run=True),
     # A Field in a deep scope, whose connections are Buffers of a size that is a name which nothing declares
-    Shape(
+    one(
         "connections-outside", 100_000, "names",
-        one(lambda count: within(9 * SEGMENTS, package(b"\x5b\x81", NEAR + b"\1" + (b"\2\x11\5" + LEAF) * count))),
+        lambda count: within(9 * SEGMENTS, package(b"\x5b\x81", NEAR + b"\1" + (b"\2\x11\5" + LEAF) * count)),
     ),
-    Shape("again", 2_000_000, "names", again, any_run=True),
-    Shape("given", 1_000_000, "lines", given, given=True),
-    Shape("given-again", 2_000_000, "lines", given_again, given=True),
-    Shape("long-names", MOST_AML, "bytes", one(long_names)),
-    Shape("carets", MOST_AML, "bytes", one(lambda size: main_method(b"\x71" + b"^" * (size - 64) + b"AAAA"))),
-    Shape("nots", 32_000, "methods", one(lambda count: nots(count, 500))),
-    Shape("nots-deep", 508, "levels", one(lambda count: nots(32_000, count))),
-    Shape("packages-deep", 508, "levels", one(lambda count: packages(4_000, count))),
-    Shape("indented", 200_000, "terms", one(lambda count: indented(count, 508))),
-    Shape("indented-deep", 508, "levels", one(lambda count: indented(200_000, count))),
-    Shape("tiny", 1_048_576, "methods", one(tiny_methods)),
-    Shape("raw", 1_048_576, "methods", one(lambda count: each(count, lambda it: method(it, 0, NOTHING)))),
-    Shape("raw-body", MOST_BYTES, "bytes", one(lambda size: main_method(NOTHING + b"\xff" * (size - 68)))),
-    Shape("buffer", MOST_BYTES, "bytes", one(buffer)),
-    Shape("text", MOST_BYTES, "bytes", one(lambda size: name(b"TXT_", b"\x0d" + b"\xff" * (size - 44) + b"\0"))),
-    Shape("scopes", 4_000_000, "terms", one(lambda count: b"\x10\x03\x5c\0" * count)),
-    Shape("dense", MOST_AML, "bytes", one(lambda size: main_method(DENSE * ((size - 64) // len(DENSE))))),
+    # Two tables that declare one name again and again
+    Shape("again", 2_000_000, "names", lambda count: tables(*[LEAF_NAME * (count // 2)] * 2), any_run=True),
+    # As many uses of names as lines that give them counts, and many lines for one name
+    Shape(
+        "given", 1_000_000, "lines", given=True,
+        make=lambda count: {**tables(main_method(uses(count))), GIVEN: each(mixed(count), lambda it: b"\\%s 0\n" % it)},
+    ),
+    Shape(
+        "given-again", 2_000_000, "lines", given=True,
+        make=lambda size: {
+            **tables(main_method(SEVEN)), GIVEN: b"".join(b"\\AAAA %d\n" % (number % 8) for number in range(size)),
+        },
+    ),
+    one(
+        "long-names", MOST_AML, "bytes",
+        lambda size: name(LONG_PATH) + main_method(LONG_PATH * ((size - 2 * len(LONG_PATH) - 64) // len(LONG_PATH))),
+    ),
+    one("carets", MOST_AML, "bytes", lambda size: main_method(b"\x71" + b"^" * (size - 64) + b"AAAA")),
+    one("nots", 32_000, "methods", lambda count: nots(count, 500)),
+    one("nots-deep", 508, "levels", lambda count: nots(32_000, count)),
+    one("packages-deep", 508, "levels", lambda count: packages(4_000, count)),
+    one("indented", 200_000, "terms", lambda count: indented(count, 508)),
+    one("indented-deep", 508, "levels", lambda count: indented(200_000, count)),
+    one("tiny", 1_048_576, "methods", lambda count: methods(count, b"")),
+    one("raw", 1_048_576, "methods", lambda count: methods(count, NOTHING)),
+    one("raw-body", MOST_BYTES, "bytes", lambda size: main_method(NOTHING + b"\xff" * (size - 68))),
+    one("buffer", MOST_BYTES, "bytes", buffer),
+    one("text", MOST_BYTES, "bytes", lambda size: name(b"TXT_", b"\x0d" + b"\xff" * (size - 44) + b"\0")),
+    one("scopes", 4_000_000, "terms", lambda count: b"\x10\x03\x5c\0" * count),
+    one("dense", MOST_AML, "bytes", lambda size: main_method(DENSE * ((size - 64) // len(DENSE)))),
     Shape("files", 512, "files", lambda count: sparse_files(count, 1 << 20)),
     Shape("files-large", 512, "files", lambda count: sparse_files(count, MOST_BYTES), large=True),
-    Shape("tables", 512, "files", lambda count: calling_files(count, 500)),
-    Shape("madt", MOST_BYTES, "bytes", madt),
+    Shape("tables", 512, "files", lambda count: calling_tables(count, 500, 1)),
+    Shape(
+        "madt", MOST_BYTES, "bytes",
+        lambda size: {**tables(b""), "apic.dat": table(b"APIC", bytes(8) + b"\xff\x02" * ((size - 44) // 2))},
+    ),
     Shape("listed", 2_000_000, "entries", listed),
-    Shape("named-entries", 262_144, "entries", named_entries),
+    # An RSDT that lists a file again and again, each byte of whose long name is four in the text
+    Shape("named-entries", 262_144, "entries", lambda size: led(["rsdp.dat", "rsdt.dat", *LED, LONG_NAME], 4, size - 2)),
 )

@@ -1,42 +1,14 @@
-"""What the benches beside this file share: their command line, how a set is written, and what a run takes."""
-import argparse
+"""What the benches beside this file share: where the others lie, how a set is written, and what several runs take."""
 import os
 import pathlib
-import shutil
-import subprocess
 import sys
-import threading
-import time
 from collections import namedtuple
 
-TOP = pathlib.Path(__file__).resolve().parent.parent
-SECONDS = 60
+sys.path[1:1] = [str(pathlib.Path(__file__).resolve().parent.parent / place) for place in ("tests", "tests/oracle")]
+from trying import run  # noqa: E402
 
-
-# What a run took: seconds, processor seconds, peak memory in bytes, and its status
-Answer = namedtuple("Answer", "seconds processor peak status")
 # A file of these bytes and then so many zeros that it has this size
 Sparse = namedtuple("Sparse", "head size")
-
-
-def command_line(text, most_seconds=SECONDS):
-    """The words that the benches take in common."""
-    words = argparse.ArgumentParser(description=text, formatter_class=argparse.RawDescriptionHelpFormatter)
-    words.add_argument("acpidis", nargs="?", default=str(TOP / "out/acpidis"))
-    words.add_argument("--only", default="")
-    words.add_argument("--keep")
-    words.add_argument("--seconds", type=float, default=most_seconds)
-    return words
-
-
-def tools_of(asked):
-    """The program and iasl, each where it is there."""
-    program, compiler = shutil.which(os.path.abspath(asked.acpidis)), shutil.which("iasl")
-    if program is None:
-        print(f"{asked.acpidis} isn't built: only iasl is timed", file=sys.stderr)
-    if compiler is None:
-        print("iasl isn't installed: only acpidis is timed", file=sys.stderr)
-    return program, compiler
 
 
 def write_file(path, content):
@@ -67,27 +39,12 @@ def write(folder, make):
     return sum(path.stat().st_size for path in folder.glob("*.dat"))
 
 
-def run(command, folder, limit, text=subprocess.DEVNULL, errors=subprocess.DEVNULL):
-    """What a run takes; nothing where it takes longer than so many seconds."""
-    started = time.monotonic()
-    child = subprocess.Popen(command, cwd=folder, stdout=text, stderr=errors)
-    stop = threading.Timer(limit, child.kill)
-    stop.daemon = True
-    stop.start()
-    _, status, usage = os.wait4(child.pid, 0)
-    seconds = time.monotonic() - started
-    stop.cancel()
-    child.returncode = os.waitstatus_to_exitcode(status)
-    if seconds >= limit:
-        return None
-    return Answer(seconds, usage.ru_utime + usage.ru_stime, usage.ru_maxrss * 1024, child.returncode)
-
-
 def several(count, command, folder, limit, **more):
     """What so many runs take; nothing where one takes too long."""
     answers = []
     while len(answers) < count and None not in answers:
-        answers.append(run(command, folder, limit, **more))
+        answer = run(command, limit, cwd=folder, **more)
+        answers.append(answer if answer.seconds < limit else None)
     return [] if None in answers else answers
 
 

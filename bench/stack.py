@@ -9,8 +9,6 @@ it with --check, by one worker. At each advice to the system, as the C library g
 program, and the script adds up what was touched of the stack on which all is read, printed and checked. The script is
 no part of the gate.
 """
-import argparse
-import os
 import pathlib
 import re
 import shlex
@@ -18,8 +16,10 @@ import subprocess
 import sys
 import tempfile
 
+import measuring  # noqa: F401, which tells where the others lie
 import hostile_shapes as shapes
-import measuring
+from made_aml import tables
+from trying import PROGRAM, asked
 
 LEVELS = 511
 STACK_KB = 8 << 10
@@ -72,16 +72,14 @@ def touched_kb(command, folder):
 
 
 def main():
-    parser = argparse.ArgumentParser(usage=__doc__.split("usage: ", 1)[1].split("\n", 1)[0])
-    parser.add_argument("program", nargs="?", default=str(measuring.TOP / "out/acpidis"))
-    program = os.path.abspath(parser.parse_args().program)
+    program = str(asked(__doc__, program=PROGRAM).program)
     external = b"\x15CALL\x08\x01"
     codes = {f"in a body: {name}": external + shapes.main_method(body) for name, body in BODIES.items()}
     codes |= {f"outside the methods: {name}": code for name, code in TABLES.items()}
     print("kind of nesting | listed | with --check")
     for name, code in codes.items():
         with tempfile.TemporaryDirectory() as folder:
-            measuring.write_file(pathlib.Path(folder) / "dsdt.dat", shapes.table(code))
+            (pathlib.Path(folder) / "dsdt.dat").write_bytes(tables(code)["dsdt.dat"])
             words = [program, "--workers", "1"]
             print(f"{name} | {touched_kb(words, folder)} KB | {touched_kb([*words, '--check'], folder)} KB", flush=True)
 

@@ -33,13 +33,6 @@ DECLARED = re.compile(
 )
 
 
-def targets(line):
-    """The names in a line that stand as targets or objects, each with its operator."""
-    for term, place in places(terms_in(WORD.split(line))):
-        if place.kind == "S" and running.NAME.fullmatch(term.word):
-            yield place.within.word, term.word
-
-
 def add_externals(lines, namespace):
     for line, scope, _ in lines:
         form = EXTERNAL.fullmatch(line)
@@ -55,7 +48,9 @@ def calls(text):
     for (line, scope, method), (behind, scope_behind, _) in zip(text.lines, following):
         if method is not own_of:
             own, own_of = set(), method
-        for operator, name in targets(line):
+        # The names that stand as targets or objects
+        found = [it for it in places(terms_in(WORD.split(line))) if running.NAME.fullmatch(it[0].word)]
+        for operator, name in ((place.within.word, term.word) for term, place in found if place.kind == "S"):
             counts = [kind for kind in text.namespace.may_be(scope, name, own) if isinstance(kind, int)]
             if any(counts) and (operator not in OF_METHODS or running.is_lone(behind, scope_behind, text.namespace)):
                 yield scope.path(), name, max(counts), operator, line

@@ -19,7 +19,9 @@ from __future__ import annotations
 
 import argparse
 import concurrent.futures
+import contextlib
 import hashlib
+import itertools
 import json
 import os
 import pathlib
@@ -237,7 +239,12 @@ class Processes:
 
     def submit(self, make: Callable, *words: object) -> concurrent.futures.Future:
         if self.jobs == 1:
-            return self.done_here(make, *words)
+            future: concurrent.futures.Future = concurrent.futures.Future()
+            try:
+                future.set_result(make(*words))
+            except MemoryError as fault:
+                future.set_exception(fault)
+            return future
         try:
             return self.pool.submit(make, *words)
         except BrokenProcessPool:
@@ -245,56 +252,37 @@ class Processes:
             self.pool = concurrent.futures.ProcessPoolExecutor(self.jobs)
             return self.pool.submit(make, *words)
 
-    @staticmethod
-    def done_here(make: Callable, *words: object) -> concurrent.futures.Future:
-        future: concurrent.futures.Future = concurrent.futures.Future()
-        try:
-            future.set_result(make(*words))
-        except MemoryError as fault:
-            future.set_exception(fault)
-        return future
-
 
 def add_all(facts: Facts, machines: Iterator[Machine], jobs: int) -> str:
     """Adds the facts of all machines in their order, and answers why the last one that has none has none."""
     waiting: deque = deque()
     fault, progress, processes = "", command.Progress("machine"), Processes(jobs)
     seen: set[str] = set()
-    for machine in machines:
-        code_sum = "" if machine.fault else sum_of(machine.text, machine.errors)
-        future = None
-        if code_sum and code_sum not in seen:
-            seen.add(code_sum)
-            future = processes.submit(facts_of, machine.text, machine.errors)
-        machine.text = machine.errors = b""
-        waiting.append((machine, code_sum, future))
-        while len(waiting) > WAITING * jobs:
-            fault = add_next(facts, *waiting.popleft()) or fault
+    for machine in itertools.chain(machines, [None]):
+        if machine:
+            code_sum, future = "" if machine.fault else sum_of(machine.text, machine.errors), None
+            if code_sum and code_sum not in seen:
+                seen.add(code_sum)
+                future = processes.submit(facts_of, machine.text, machine.errors)
+            machine.text = machine.errors = b""
+            waiting.append((machine, code_sum, future))
+        while len(waiting) > (WAITING * jobs if machine else 0):
+            done, code_sum, future = waiting.popleft()
+            if future:
+                facts.add_code(code_sum, done.above, *outcome(done, future))
+            fault = facts.add_machine(done, code_sum) or fault
             progress.step()
-    while waiting:
-        fault = add_next(facts, *waiting.popleft()) or fault
-        progress.step()
     processes.pool.shutdown()
     progress.end()
     return fault
-
-
-def add_next(facts: Facts, machine: Machine, code_sum: str, future: concurrent.futures.Future | None) -> str:
-    if future:
-        facts.add_code(code_sum, machine.above, *outcome(machine, future))
-    return facts.add_machine(machine, code_sum)
 
 
 def outcome(machine: Machine, future: concurrent.futures.Future) -> tuple[str, dict[str, list[list]]]:
     """What comes of a machine's listing. Where a process was ended, which may have read another one's, this is read again
     by a process of its own."""
     try:
-        return future.result()
-    except BrokenProcessPool:
-        pass
-    except MemoryError:
-        return NO_MEMORY, {}
-    try:
+        with contextlib.suppress(BrokenProcessPool):
+            return future.result()
         with concurrent.futures.ProcessPoolExecutor(1) as pool:
             return pool.submit(facts_of, *machine.read()).result()
     except BrokenProcessPool:

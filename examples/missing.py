@@ -14,7 +14,10 @@ already. ACPIDIS names another program. Status 1 is a folder that is refused, 2 
 fault.
 """
 
+import collections
 import concurrent.futures
+import itertools
+import pathlib
 import re
 import sys
 import tempfile
@@ -63,24 +66,13 @@ class Trial:
     the set is refused for the name."""
 
     def __init__(self, run, raw, bodies):
-        self.refused = run.refused
-        self.read = self.loose = self.values = 0
-        self.faults = []
-        if run.refused:
-            return
-        if not bodies:
-            self.add(run.listing.lone_values())
-        for body in bodies:
-            if body.number in raw:
-                self.faults.append(raw[body.number].fault)
-            else:
-                self.add(run.listing.methods[body.number].lone_values(run.listing.namespace))
-
-    def add(self, values):
-        """What is read, with so many values that stand alone."""
-        self.values += values
-        self.loose += values > 0
-        self.read += values == 0
+        self.refused, self.faults, values = run.refused, [], []
+        if not run.refused:
+            self.faults = [raw[body.number].fault for body in bodies if body.number in raw]
+            read = [run.listing.methods[body.number] for body in bodies if body.number not in raw]
+            values = [it.lone_values(run.listing.namespace) for it in read] if bodies else [run.listing.lone_values()]
+        # What is read, without and with values that stand alone, and how many these are
+        self.read, self.loose, self.values = values.count(0), len(values) - values.count(0), sum(values)
 
     def rank(self):
         """The less, the better."""
@@ -156,27 +148,28 @@ class Search:
     def apart(self, names):
         """The names in groups, none of which has two that a body has both of."""
         bodies_with = bodies_by_segment(self.waiting)
-        groups, taken, alone = [], [], []
+        # Each with the bodies that have one of its names
+        groups, alone = [], []
         for name in names:
             segment = paths.parts(name)[-1]
-            bodies = bodies_with.get(segment.encode(), set()) | {body.number for body in self.waiting[name]}
+            bodies = bodies_with[segment.encode()] | {body.number for body in self.waiting[name]}
             if not self.waiting[name] or segment in self.outside:
                 alone.append([name])  # its count may change how the tables themselves are read
                 continue
-            place = next((at for at, other in enumerate(taken) if other.isdisjoint(bodies)), len(groups))
-            if place == len(groups):
-                groups.append([])
-                taken.append(set())
-            groups[place].append(name)
-            taken[place] |= bodies
-        return alone + groups
+            group = next((it for it in groups if it[1].isdisjoint(bodies)), None)
+            if group is None:
+                group = [], set()
+                groups.append(group)
+            group[0].append(name)
+            group[1].update(bodies)
+        return alone + [names for names, _ in groups]
 
     def found_in(self, bodies):
-        found = {}
+        found = collections.defaultdict(list)
         for body in bodies:
             name = body.name() if body.word == "UnknownName" else None
             if name and name not in self.counts:
-                found.setdefault(name, []).append(body)
+                found[name].append(body)
         return found
 
     def choose(self, name, trials):
@@ -201,22 +194,16 @@ class Search:
 
 def bodies_by_segment(waiting):
     """The numbers of the waiting bodies by each segment that may stand in them, at whatever byte."""
-    found = {}
-    for bodies in waiting.values():
-        for body in bodies:
-            for form in ANYWHERE.finditer(body.raw):
-                found.setdefault(form[1], set()).add(body.number)
+    found = collections.defaultdict(set)
+    for body in itertools.chain.from_iterable(waiting.values()):
+        for segment in ANYWHERE.findall(body.raw):
+            found[segment].add(body.number)
     return found
 
 
 def spans(counts):
     """Counts in words: 0, 1 or 3 to 7."""
-    runs = []
-    for count in counts:
-        if runs and runs[-1][-1] == count - 1:
-            runs[-1].append(count)
-        else:
-            runs.append([count])
+    runs = [[count for _, count in run] for _, run in itertools.groupby(enumerate(counts), lambda it: it[1] - it[0])]
     words = [word for run in runs for word in ([f"{run[0]} to {run[-1]}"] if len(run) > 2 else map(str, run))]
     return " or ".join(filter(None, [", ".join(words[:-1]), words[-1]]))
 
@@ -232,13 +219,9 @@ def outcome(trial, is_outside):
     if is_outside:
         loose = ", with values that stand alone as terms outside the methods" if trial.loose else ""
         return f"the set is read{loose}"
-    words = []
-    if trial.read:
-        words.append(number_of(trial.read, "read"))
-    if trial.loose:
-        words.append(number_of(trial.loose, "read") + " with values that stand alone as terms")
-    if trial.faults:
-        words.append(number_of(len(trial.faults), "stay") + f" raw, {trial.faults[0]}")
+    words = [number_of(trial.read, "read")] if trial.read else []
+    words += [number_of(trial.loose, "read") + " with values that stand alone as terms"] if trial.loose else []
+    words += [number_of(len(trial.faults), "stay") + f" raw, {trial.faults[0]}"] if trial.faults else []
     return ", ".join(words)
 
 
@@ -285,10 +268,7 @@ def main():
     with command.running_it("missing"):
         # With --unknown-zero no body waits for a name.
         asked = command.parse(words, ("--externals", "--unknown-zero"))
-        given = ""
-        if asked.externals:
-            with open(asked.externals, encoding="ascii") as file:
-                given = file.read()
+        given = pathlib.Path(asked.externals).read_text("ascii") if asked.externals else ""
         given += "\n" if given and not given.endswith("\n") else ""
         search = Search(running.program(), asked.folder, command.words_of(asked.options), given)
         try:

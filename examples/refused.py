@@ -49,11 +49,10 @@ class Refusal:
 
     def __init__(self, line):
         form = LINE.fullmatch(line)
-        self.line = line.removeprefix("acpidis: ")
-        self.file = os.fsdecode(file_name(form["file"])) if form and form["file"] is not None else None
-        self.word = form["word"] if form else ""
-        self.at = int(form["at"]) if form and form["at"] else None
-        self.path = form["path"] if form else None
+        self.line, found = line.removeprefix("acpidis: "), form.groupdict() if form else {}
+        self.file, self.word, self.at, self.path = (found.get(it) for it in ("file", "word", "at", "path"))
+        self.file = os.fsdecode(file_name(self.file)) if self.file is not None else None
+        self.at = int(self.at) if self.at else None
 
 
 def shown_name(name):
@@ -126,9 +125,10 @@ class Set:
         self.space = aml.Space(sum(map(len, self.codes)))
         self.any_run, self.at_fault = asked.any_run, None
         self.wants_any_run = asked.has_any_run and not asked.any_run
-        for path, count in given_counts(asked.externals):
+        given = read_file("", asked.externals)[:MOST_BYTES].decode("latin-1") if asked.externals else ""
+        for path, count in GIVEN.findall(given):
             node = self.space.node(path)
-            node.given = max(node.given or 0, count)
+            node.given = max(node.given or 0, int(count))
 
     def read_to(self, refusal):
         """Reads the tables in front of the one at fault, and that one to where the fault is."""
@@ -148,13 +148,6 @@ class Set:
         return f"{shown_name(self.order[table])}, offset {at}, byte {at + HEADER} of the file"
 
 
-def given_counts(file):
-    if not file:
-        return []
-    with open(file, "rb") as opened:
-        return [(path, int(count)) for path, count in GIVEN.findall(opened.read(MOST_BYTES).decode("latin-1"))]
-
-
 # ---- what is said
 
 
@@ -165,11 +158,6 @@ def path_of(node):
 def bytes_at(code, at):
     shown = code[at : at + SHOWN_BYTES].hex(" ").upper()
     return shown + (" .." if len(code) > at + SHOWN_BYTES else "") if shown else "the table's end"
-
-
-def around(reader):
-    """A line for each of the terms that the reader is in, the inner first."""
-    return [f"  in {aml.text(term)}, offset {term.at}" for term in reversed(reader.open[-MOST_SHOWN:])]
 
 
 def counted(count):
@@ -194,7 +182,9 @@ def say_code(found, refusal):
     if reader.stopped != refusal.at:
         yield f"  the reader of this script came to {reader.stopped} only"
         return
-    blocks, before = around(reader), reader.before
+    # A line for each of the terms that the reader is in, the inner first
+    blocks = [f"  in {aml.text(term)}, offset {term.at}" for term in reversed(reader.open[-MOST_SHOWN:])]
+    before = reader.before
     # The last names of the term in front, and of the one that the reader is in
     front = before or next(reversed(reader.open), None)
     uses = [use for use in reader.uses[-MOST_SHOWN:] if front is not None and use.term.at >= front.at]

@@ -21,7 +21,6 @@ from acpidis_tools import aml, command
 HEADER, SUM, OEM_REVISION = 36, 9, 24
 # The terms with a scope of their own, so that names inside mean the same wherever they stand.
 SCOPED = aml.OPENERS | {"Method"}
-MOST = (1 << 6, 1 << 12, 1 << 20, 1 << 28)
 ARCHIVE = "kernel/firmware/acpi"
 
 
@@ -83,20 +82,12 @@ def place_in(code, path, file):
 
 def spelled(value, width):
     """A package length in so many bytes, or in as many as it needs."""
-    while value >= MOST[width - 1]:
-        width += 1
-        if width > len(MOST):
-            raise Refused("a package would be longer than a package length can say")
+    width = next((it for it in range(width, 5) if value < aml.LIMITS[it - 1]), None)
+    if width is None:
+        raise Refused("a package would be longer than a package length can say")
     if width == 1:
         return bytes([value])
     return bytes([width - 1 << 6 | value & 15]) + (value >> 4).to_bytes(width - 1, "little")
-
-
-def length_at(code, at):
-    """The value of a package length, and in how many bytes it stands."""
-    more = code[at] >> 6
-    rest = int.from_bytes(code[at + 1 : at + 1 + more], "little")
-    return (code[at] & 15 | rest << 4 if more else code[at] & 63), 1 + more
 
 
 def spliced(code, place, content):
@@ -104,7 +95,7 @@ def spliced(code, place, content):
     grown = len(content) - (place.end - place.named)
     code = code[: place.named] + content + code[place.end :]
     for at in reversed(place.lengths):
-        value, width = length_at(code, at)
+        value, width = Reader(code).length(at, len(code))
         again = spelled(value + grown, width)
         again = spelled(value + grown + len(again) - width, len(again))
         code = code[:at] + again + code[at + width :]
@@ -130,14 +121,6 @@ def sealed(table):
     table[SUM] = 0
     table[SUM] = -sum(table) & 255
     return bytes(table)
-
-
-def raised(table):
-    """A table whose OEM revision is one more."""
-    revision = int.from_bytes(table[OEM_REVISION : OEM_REVISION + 4], "little") + 1
-    if revision >> 32:
-        raise Refused("the OEM revision can't be raised: it is FFFFFFFF")
-    return sealed(table[:OEM_REVISION] + revision.to_bytes(4, "little") + table[OEM_REVISION + 4 :])
 
 
 def archive(table):
@@ -169,7 +152,11 @@ def main():
         table, new = command.read(asked.dump), command.read(asked.new)
         for path in asked.paths:
             table = patched(table, new, path, (asked.dump, asked.new))
-        table = raised(table) if asked.oem_revision else table
+        if asked.oem_revision:
+            revision = int.from_bytes(table[OEM_REVISION : OEM_REVISION + 4], "little") + 1
+            if revision >> 32:
+                raise Refused("the OEM revision can't be raised: it is FFFFFFFF")
+            table = sealed(table[:OEM_REVISION] + revision.to_bytes(4, "little") + table[OEM_REVISION + 4 :])
         if asked.initrd:
             command.write(asked.initrd, archive(table))
         if asked.output:

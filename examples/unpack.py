@@ -18,6 +18,7 @@ import pathlib
 import re
 import shutil
 import tempfile
+from collections import Counter, namedtuple
 
 from acpidis_tools import command
 
@@ -35,12 +36,13 @@ class Refused(Exception):
     """Why there is no folder."""
 
 
-class Table:
-    """A table of the file: its signature, its bytes, and its address, 0 where none is known."""
+# A table of the file: its bytes, its signature, and its address, 0 where none is known
+Table = namedtuple("Table", "data signature address")
 
-    def __init__(self, data, signature=None, address=0):
-        self.data, self.address = data, address
-        self.signature = signature or ("RSDP" if data.startswith(ROOT) else data[:4].decode("latin-1"))
+
+def plain(data):
+    """A table of these bytes alone."""
+    return Table(data, "RSDP" if data.startswith(ROOT) else data[:4].decode("latin-1"), 0)
 
 
 def little(data, at, width):
@@ -70,13 +72,11 @@ def dumped(text):
             tables[-1][1].extend(bytes.fromhex(row[2]))
         elif not line.strip("> \t\r"):
             title = None
-    return [Table(whole(number, name, bytes(data)), name, address) for (number, name, address), data in tables]
-
-
-def whole(number, name, data):
-    if len(data) < 8 or length_of(data) > len(data):
-        raise Refused(f"line {number}: {name} has {len(data)} bytes of {length_of(data) if len(data) > 7 else 'its header'}")
-    return data
+    for (number, name, _), data in tables:
+        if len(data) < 8 or length_of(data) > len(data):
+            whole = length_of(data) if len(data) > 7 else "its header"
+            raise Refused(f"line {number}: {name} has {len(data)} bytes of {whole}")
+    return [Table(bytes(data), name, address) for (_, name, address), data in tables]
 
 
 def behind_each_other(data):
@@ -87,7 +87,7 @@ def behind_each_other(data):
         least = ROOT_LENGTH if data.startswith(ROOT, at) else HEADER
         if not SIGNATURE.match(data, at) and not data.startswith(ROOT, at) or not least <= size <= len(data) - at:
             return []
-        tables.append(Table(data[at : at + size]))
+        tables.append(plain(data[at : at + size]))
         at += size
     return tables
 
@@ -101,16 +101,13 @@ def found_in(image):
         if at >= end and HEADER <= size <= len(image) - at and sums[at] == sums[at + size]:
             end = at + size
             tables.setdefault(image[at:end], None)
-    return [Table(data) for data in tables]
+    return list(map(plain, tables))
 
 
 def tables_of(data):
     text = data.decode("latin-1")
-    tables = (
-        dumped(text)
-        if any(map(TITLE.fullmatch, map(str.rstrip, text.split("\n"))))
-        else behind_each_other(data) or found_in(data)
-    )
+    is_text = any(map(TITLE.fullmatch, map(str.rstrip, text.split("\n"))))
+    tables = dumped(text) if is_text else behind_each_other(data) or found_in(data)
     if not tables:
         raise Refused("it is packed: unpack it first" if data.startswith(PACKED) else "no table is in it")
     return tables
@@ -118,14 +115,11 @@ def tables_of(data):
 
 def names_of(tables):
     """The names of the files, as acpixtract gives them: numbered where several tables have a signature."""
-    counts, numbers = {}, {}
-    for table in tables:
-        counts[table.signature] = counts.get(table.signature, 0) + 1
-    for table in tables:
-        signature = table.signature
-        numbers[signature] = number = numbers.get(signature, 0) + 1
+    counts, numbers = Counter(table.signature for table in tables), Counter()
+    for signature in (table.signature for table in tables):
+        numbers[signature] += 1
         base = re.sub(r"[^a-z0-9_!]", "_", signature.lower())
-        yield f"{base}{number if counts[signature] > 1 else ''}.dat"
+        yield f"{base}{numbers[signature] if counts[signature] > 1 else ''}.dat"
 
 
 def leads(tables):

@@ -102,20 +102,12 @@ def find_library() -> ctypes.CDLL:
     library = ctypes.CDLL(os.environ.get("ACPIDIS_LIBRARY", "libacpidis.so.0"))
     pointer, size, place = ctypes.POINTER(Set), ctypes.c_size_t, ctypes.POINTER(ctypes.c_size_t)
     types = {
-        "open": (pointer,),
-        "close": (pointer,),
         "add": (pointer, ctypes.c_char_p, ctypes.POINTER(ctypes.c_uint64), ctypes.c_char_p, size),
-        "set_options": (pointer, ctypes.c_uint),
-        "set_counts": (pointer, ctypes.c_char_p, size, place),
-        "run": (pointer, ctypes.c_bool),
-        "ended": (pointer, ctypes.POINTER(ctypes.c_int), place, place),
-        "list": (pointer, ctypes.c_bool),
-        "listed": (pointer, ctypes.POINTER(Sizes)),
-        **{name: (pointer, size, ctypes.c_char_p, size) for name in COPIES},
-        "words": (ctypes.c_int,),
-        "kind_words": (ctypes.c_uint32,),
-        "fault_words": (ctypes.c_uint32,),
-        "version": (),
+        "set_options": (pointer, ctypes.c_uint), "set_counts": (pointer, ctypes.c_char_p, size, place),
+        "ended": (pointer, ctypes.POINTER(ctypes.c_int), place, place), "listed": (pointer, ctypes.POINTER(Sizes)),
+        "words": (ctypes.c_int,), "version": (), **dict.fromkeys(("kind_words", "fault_words"), (ctypes.c_uint32,)),
+        **dict.fromkeys(("run", "list"), (pointer, ctypes.c_bool)), **dict.fromkeys(("open", "close"), (pointer,)),
+        **dict.fromkeys(COPIES, (pointer, size, ctypes.c_char_p, size)),
     }
     for name, arguments in types.items():
         getattr(library, f"acpidis_{name}").argtypes = arguments
@@ -217,12 +209,6 @@ class Open:
             yield Method(texts[at : at + path], flags & 7, fault, tables[table], HEADER + start, length, body)
 
 
-def read_file(file: pathlib.Path) -> bytes:
-    """The first bytes of a file, one more than a dump may have."""
-    with file.open("rb") as opened:
-        return opened.read(MOST_BYTES + 1)
-
-
 def read_folder(folder: pathlib.Path) -> Dict[str, bytes]:
     """The files of a folder, by their names."""
     try:
@@ -237,7 +223,8 @@ def read_folder(folder: pathlib.Path) -> Dict[str, bytes]:
     files = {}
     for name in sorted(names, key=os.fsencode):
         try:
-            files[name] = read_file(folder / name)
+            with open(folder / name, "rb") as opened:
+                files[name] = opened.read(MOST_BYTES + 1)
         except OSError:
             raise Refused(f'cannot read "{name}"') from None
     return files
@@ -284,15 +271,9 @@ def options_of(any_sum: bool, any_run: bool, unknown_zero: bool) -> int:
 
 
 def load(
-    source: Source,
-    *,
-    any_sum: bool = False,
-    any_run: bool = False,
-    unknown_zero: bool = False,
-    externals: Counts = None,
-    text: bool = True,
-    bodies: bool = True,
-) -> Listing:
+    source: Source, *, any_sum: bool = False, any_run: bool = False, unknown_zero: bool = False,
+    externals: Counts = None, text: bool = True, bodies: bool = True,
+) -> Listing:  # fmt: skip
     """The listing of a folder of dumps, or of the bytes of dumps by their names.
 
     The options are the program's. `externals` is the text of a file of counts, or the counts by their paths. Without `text`
@@ -310,13 +291,9 @@ def load(
 
 
 def check(
-    source: Source,
-    *,
-    any_sum: bool = False,
-    any_run: bool = False,
-    unknown_zero: bool = False,
+    source: Source, *, any_sum: bool = False, any_run: bool = False, unknown_zero: bool = False,
     externals: Counts = None,
-) -> str:
+) -> str:  # fmt: skip
     """The lines that the program prints with --check: of each table whether what was read encodes to its bytes."""
     with Open() as opened:
         filled(opened, source, options_of(any_sum, any_run, unknown_zero), externals)

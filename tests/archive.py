@@ -11,7 +11,7 @@ import os
 import shutil
 import sys
 
-from tally import Tally  # before the others, whose places it tells
+from tally import Tally
 from wrong_bodies import TOP, kit
 
 CRATE = "acpidis_c"

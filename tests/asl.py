@@ -13,23 +13,20 @@ that fails ends it. The last line is 'N passed, N failed'.
 import concurrent.futures
 import itertools
 import os
-import pathlib
 import random
 import re
 import shutil
 import subprocess
 
-# Before the others, whose places it tells
-from tally import DEMO, PROGRAM, TOP, Tally, parser, run_script, timed, written
-import board
+from tally import DEMO, PROGRAM, TOP, Tally, asked, run_script, timed, written
 import splice
 from acpidis_tools.asl.blocks import Block, Reader
 from acpidis_tools.asl.names import said_by
 from acpidis_tools.listing import NoListing
 from dumps import dumps_of
 from folders import read_folder
-from hostile import mutated
-from made_aml import device, method, scope, table, tables
+from hostile import head_of, mutated, text_of
+from made_aml import SETS, VERSIONS, device, method, scope, table, tables
 from made_plain import PlainMaker
 from made_sets import sealed
 from printing import file_text
@@ -40,7 +37,7 @@ ASL, SPLICE, UNPACK, SHOW = "asl.py", "splice.py", "unpack.py", "show.py"
 IASL, ACPIXTRACT = shutil.which("iasl"), shutil.which("acpixtract")
 HEADER, MOST_GROWN, GROWN = 36, 70_000, 150
 NOOP = b"\xA3"
-SAMPLES = {"pages": PAGES_FILES, "hostile": HOSTILE_FILES, "runs": RUNS_FILES, **board.VERSIONS}
+SAMPLES = {"pages": PAGES_FILES, "hostile": HOSTILE_FILES, "runs": RUNS_FILES, **VERSIONS}
 
 
 class Checks(Tally):
@@ -108,7 +105,7 @@ def check_sets(checks, count, folders):
     jobs = [(name, dumps_of(files), Options(any_run=True)) for name, files in SAMPLES.items()]
     jobs += [("demo", read_folder(DEMO), Options())]
     jobs += [(f"plain{seed}", dumps_of(plain_set(seed)), Options()) for seed in range(count)]
-    for folder in map(pathlib.Path, folders):
+    for folder in folders:
         jobs.append((f"of_{folder.name}", read_folder(folder), Options(any_run=True, any_sum=True)))
     with concurrent.futures.ThreadPoolExecutor(os.cpu_count()) as pool:
         list(pool.map(lambda job: check_set(checks, *job), jobs))
@@ -118,19 +115,13 @@ def check_sets(checks, count, folders):
 
 # ---- what ASL hasn't got
 
-HEAD = 'Table "a.dat" "DSDT" Length 36 Revision {} Oem "TEST  " "EXAMPLE " 00000001 Creator "TEST" 00000001\n'
-ROWS = r"""
-  \FOO_ Method 1
-  \BAR_ Name
-  \DEV0 Device
-  \DEV0._STA Method 0
-"""
+ROWS = ["\\FOO_ Method 1", "\\BAR_ Name", "\\DEV0 Device", "\\DEV0._STA Method 0"]
 CALLED = "External (NEW0, 0x08, 0x01)\n    NEW0 (One)"
 BY_PATH = "an External of a method that is called, by a name that isn't from the root"
 SCOPED = "FOO_ (One)\n  }\n  Scope (FOO_) {", "FOO_ as a call, where nothing says that it is a method"
 WIDE = "0x1122334455667788"
-BLOCK = 'DefinitionBlock ("a.dat") {\n  Method (FOO_, 1, NotSerialized, 0) {\n    Noop\n  }\n}\n'
-WHOLE = f"{HEAD.format(2)}Namespace 4{ROWS}{BLOCK}"
+WHOLE = text_of(ROWS, ["Method (FOO_, 1, NotSerialized, 0) {", "  Noop", "}"], "a.dat")
+BLOCK = WHOLE[WHOLE.index("DefinitionBlock") :]
 # What is no line of a listing.
 NO_LINES = (
     "noop", "", "Noop Noop", "Add (One One, )", "{", "Add (One, One, ", "Add One, One)", 'Store ("a, Local0)',
@@ -154,11 +145,8 @@ MISREAD = [
 
 
 def text_with(body, revision=2):
-    return (
-        f'{HEAD.format(revision)}Namespace 4{ROWS}DefinitionBlock ("a.dat") {{\n'
-        f"  Method (FOO_, 1, NotSerialized, 0) {{\n    {body}\n  }}\n  Name (BAR_, One)\n"
-        "  Device (DEV0) {\n    Method (_STA, 0, NotSerialized, 0) {\n    }\n  }\n}\n"
-    )
+    lines = ["Method (FOO_, 1, NotSerialized, 0) {", f"  {body}", "}", "Name (BAR_, One)", "Device (DEV0) {"]
+    return text_of(ROWS, [*lines, "  Method (_STA, 0, NotSerialized, 0) {", "  }", "}"], "a.dat", revision)
 
 
 def check_told(checks):
@@ -190,7 +178,7 @@ def check_names(checks):
     """Files of names that a command could take for something else, and many blocks."""
     odd = ["-o", "a b;$(touch bad)", "..", "*/ \\x0A", "DSDT", "_-o"]
     for what, names in (("odd", odd), ("many", [f"f{number}.dat" for number in range(512)])):
-        heads = "".join(HEAD.format(2).replace('"a.dat" "DSDT"', f'"{name}" "SSDT"') for name in names)
+        heads = "".join(head_of(name, "SSDT") for name in names)
         blocks = "".join(f'DefinitionBlock ("{name}") {{\n}}\n' for name in names)
         text = checks.text(f"{what}.text", f"{heads}Namespace 0\n{blocks}")
         checks.says(f"{what} names of files", [ASL, text, what], 0)
@@ -266,7 +254,7 @@ def added(checks, name, dumps, options):
 
 def check_edit(checks):
     """Whole tables to be changed are compiled, but with a name that nothing declares."""
-    checks.text("edit.text", listed(written(checks.room / "edit", board.VERSIONS["first"])))
+    checks.text("edit.text", listed(written(checks.room / "edit", VERSIONS["first"])))
     checks.says("--edit", [ASL, "--edit", "edit.text", "edited"], 0)
     what = "asl: 'edited/dsdt.dat.asl' is there, and may have been changed: remove it, or name another folder\n"
     checks.says("--edit once more", [ASL, "--edit", "edit.text", "edited"], 2, what)
@@ -278,14 +266,6 @@ def check_edit(checks):
             source.write_text(re.sub(r"(Method \([A-Z_]*, 1, .*\n)", rf"\g<1>{statement}\n", text), "ascii")
             source.with_suffix(".aml").unlink(missing_ok=True)
             checks.is_same(f"{source.name} with {statement}", compiled(source) is not None, holds)
-
-
-# A method that only Externals name, called where it is found by a search and by its path; one without arguments; a unit.
-EXTERNALS = (
-    b"\x15\\\x2E_SB_MPTS\x08\x01" + b"\x15\\\x2E_SB_MINI\x08\x00" + b"\x15\\UNIT\x05\x00"
-    + scope(b"\\_SB_", device(b"DEV0", method(b"CALL", 0, b"\x5B\x12MPTS\0MPTS\x01\x70\x01UNIT")))
-    + method(b"MAIN", 0, b"\\\x2E_SB_MPTS\x01" + b"\\\x2E_SB_MINI" + b"\xA4UNIT")
-)
 
 
 def listed(folder, options=()):
@@ -507,7 +487,7 @@ def check_chain(checks):
 
 def check_show(checks):
     """What is declared at a path, or at paths that end so."""
-    place = written(checks.room / "show", board.VERSIONS["first"])
+    place = written(checks.room / "show", VERSIONS["first"])
     text = checks.text("show.text", listed(place))
     shown = re.findall(r"^== (\S+)\n((?:(?!==).*\n)+)", (TOP / "tests/shown.txt").read_text(), re.M)
     for path, wanted in shown:
@@ -543,22 +523,18 @@ CHECKS = (
 
 
 def main():
-    words = parser(__doc__)
-    words.add_argument("--sets", metavar="N", type=int, default=200)
-    words.add_argument("--stop", action="store_true")
-    words.add_argument("folders", metavar="FOLDER", nargs="*")
-    asked = words.parse_args()
+    words = asked(__doc__, sets=200, stop=False, folders=())
     if not IASL:
         print("iasl isn't there (acpica-tools): nothing is compiled")
-    with Checks(asked.stop) as checks:
+    with Checks(words.stop) as checks:
         for check in CHECKS:
             check(checks)
-        check_sets(checks, asked.sets, asked.folders)
+        check_sets(checks, words.sets, words.folders)
         if IASL:
-            for version, files in board.VERSIONS.items():
+            for version, files in VERSIONS.items():
                 added(checks, version, dumps_of(files), ["--any-run"])
             added(checks, "of the demo", read_folder(DEMO), [])
-            added(checks, "of Externals", dumps_of(tables(EXTERNALS)), [])
+            added(checks, "of Externals", dumps_of(tables(*SETS["externals"])), [])
             check_edit(checks)
 
 

@@ -9,12 +9,11 @@ PROGRAM is out/acpidis if left out. It needs a C compiler, for refusals.c. The l
 
 import os
 import subprocess
-import sys
 
-from tally import DEMO, PROGRAM, Tally, shim_in  # before the others, whose places it tells
+from tally import DEMO, PROGRAM, Tally, asked, run, shim_in, written
 import hostile_shapes as shapes
 import measuring
-import sets
+from made_aml import tables
 
 METHODS = 20_000
 # A write takes 64 KB, and less only where a body's text doesn't fit any more.
@@ -41,61 +40,46 @@ def count_calls(program, shim, folder):
     """The length of a set's text, the writes of it, and the blocks of memory that are let go behind the last one."""
     counts, end = os.pipe()
     words = ["sh", "-c", f'exec "$0" "$@" 3>&{end}', program, "--workers", "1", folder]
-    run = subprocess.run(
+    ran = subprocess.run(
         words, env={**os.environ, "LD_PRELOAD": shim}, stdout=subprocess.PIPE, check=True, pass_fds=[end]
     )
     os.close(end)
     with os.fdopen(counts) as lines:
         *_others, writes, freed = map(int, lines.read().split("\n")[-2].split())
-    return len(run.stdout), writes, freed
-
-
-def usage_of(*words):
-    """What a run takes of the system."""
-    process = subprocess.Popen(words, stdout=subprocess.DEVNULL)
-    _, status, usage = os.wait4(process.pid, 0)
-    process.returncode = os.waitstatus_to_exitcode(status)
-    assert process.returncode == 0, words
-    return usage
+    return len(ran.stdout), writes, freed
 
 
 def costs_of(program, folder, make, options=()):
     """What a check of a set takes, which writes no text."""
     measuring.write(folder, make)
-    command = [program, "--workers", "1", "--check", *options, "."]
-    answer = measuring.run(command, folder, 60) or measuring.Answer(60, 60, 0, None)
+    answer = run([program, "--workers", "1", "--check", *options, "."], 60, cwd=folder)
     assert answer.status in (0, 3), (folder, answer)
     return answer
 
 
-def bounded(program, shape, folder):
-    """The processor time and the memory of a check of a bounded shape, each with its bound."""
-    answer = costs_of(program, folder, lambda: shape.make(shape.size), shape.options(folder))
-    most = STARTED_BYTES + BOUNDED[shape.name] * sum(file.stat().st_size for file in folder.iterdir())
-    yield f"seconds: {shape.name}", round(answer.processor, 2), MOST_SECONDS
-    yield f"bytes of memory: {shape.name}", answer.peak, most
-
-
 def measure(program, room):
     """What was counted, each with its bound."""
-    shim, folder = shim_in(room), room / "set"
-    folder.mkdir()
-    (folder / "dsdt.dat").write_bytes(sets.many_methods(METHODS))
-    length, writes, freed = count_calls(program, shim, folder)
+    folder = written(room / "set", tables(shapes.many_methods(METHODS)))
+    length, writes, freed = count_calls(program, shim_in(room), folder)
     assert length > 100 * METHODS, length
-    faults = usage_of(program, DEMO).ru_minflt - usage_of(program, "--version").ru_minflt
+    small, least = (run([program, word], 60) for word in (DEMO, "--version"))
+    assert (small.status, least.status) == (0, 0), small
     yield f"writes of {length} bytes", writes, length // LEAST_WRITE
     yield "blocks let go behind the last write", freed, MOST_FREED
-    yield "page faults of a small set", faults, MOST_FAULTS
+    yield "page faults of a small set", small.faults - least.faults, MOST_FAULTS
     for name, (make, most) in SHAPES.items():
-        answer = costs_of(program, room / name, lambda: shapes.one(lambda _: make())(0))
+        answer = costs_of(program, room / name, lambda: tables(make()))
         yield f"seconds: {name}", round(answer.processor, 2), most
     for shape in (it for it in shapes.SHAPES if it.name in BOUNDED):
-        yield from bounded(program, shape, room / shape.name)
+        folder = room / shape.name
+        answer = costs_of(program, folder, lambda: shape.make(shape.size), shape.options(folder))
+        most = STARTED_BYTES + BOUNDED[shape.name] * sum(file.stat().st_size for file in folder.iterdir())
+        yield f"seconds: {shape.name}", round(answer.processor, 2), MOST_SECONDS
+        yield f"bytes of memory: {shape.name}", answer.peak, most
 
 
 def main():
-    program = os.path.abspath(sys.argv[1] if len(sys.argv) > 1 else PROGRAM)
+    program = asked(__doc__, program=PROGRAM).program
     with Tally() as checks:
         for name, count, most in measure(program, checks.room):
             print(f"{name}: {count}, at most {most}")

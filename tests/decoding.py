@@ -14,21 +14,19 @@ import difflib
 import pathlib
 import re
 import shutil
-import sys
 import tempfile
 
-from tally import DEMO, TOP, Tally, written  # before the others, whose places it tells
+from tally import DEMO, TOP, Tally, asked, written
 from acpidis_tools.decoding import Decoder, bits_text, flag_words
 from dumps import order_of
 from folders import read_folder
-from acpidis_tools.identifiers import eisa_id, eisa_number, uuid_text
 from iasl import facts_of
 from acpidis_tools.listing import Listing, read_listing
 from acpidis_tools.names import FIELD_LISTS, Names
-from made_aml import buffer, device, field, method, packed, region, scope, tables
+from made_aml import SETS, buffer, tables
 from acpidis_tools.resources import descriptors
 from running import REFUSED, Options, run_folder
-from acpidis_tools.standard import space_name, status_words
+from acpidis_tools.standard import eisa_id, eisa_number, space_name, status_words, uuid_text
 
 EISA = re.compile("[A-Z]{3}[0-9A-F]{4}")
 LONG_NAME = "5C 5F 53 42 5F 00"  # \_SB_ and its NUL
@@ -79,51 +77,6 @@ def check_words(checks: Tally) -> None:
     checks.is_same("places", got, wanted)
 
 
-HPET = buffer(data_of("86 09 00 01 00 00 D0 FE 00 04 00 00 22 01 00 79 00"))
-UUID = buffer(data_of("5B 4D DB 33 F7 1F 1C 40 96 57 74 41 C0 3D D7 66"))
-# CreateDWordField (BUF0, 0x04, BASE), CreateBitField (BUF0, 0x68, BIT0)
-PATCH = b"\x8ABUF0\x0A\x04BASE\x8DBUF0\x0A\x68BIT0"
-UNITS = b"\0\x08" + b"AAAA\1" + b"BBBB\7" + b"\1\3\0" + b"CCCC\x20"
-DEVICE = (
-    b"\x08_HID\x0C\x41\xD0\x0C\x09" + b"\x08_CID" + packed(b"\x12", b"\2\x0DACPI0007\0\x0C\x41\xD0\x01\x03")
-    + b"\x08_STA\x0A\x0F" + region(b"REG0", 1, b"\x0A\xB2", b"\1") + field(b"REG0", 0x11, UNITS)
-    + b"\x08BUF0" + HPET + PATCH + method(b"_CRS", 0, b"\x8BBUF0\1WORD" + b"\xA4BUF0") + method(b"_Q13", 0, b"")
-    + method(b"_OSC", 0, packed(b"\xA0", b"\x93\x68" + UUID + b"\xA4\0") + b"\xA4\1")
-    + method(b"_PRS", 0, b"\x08BUF1" + HPET + b"\x8ABUF1\x0A\x08LEN0\xA4BUF1")
-)
-PINS = "8C 1E 00 01 01 01 00 09 00 00 00 00 00 00 17 00 00 1B 00 21 00 00 00 01 00 02 00 LONG"
-LINES = region(b"GPO0", 8, b"\0", b"\1") + field(b"GPO0", 1, b"\2" + buffer(data_of(PINS)) + b"PIN0\1")
-CODE = scope(b"\\_SB_", device(b"EC0_", DEVICE, LINES))
-
-
-def package(*elements: bytes) -> bytes:
-    return packed(b"\x12", bytes([len(elements)]) + b"".join(elements))
-
-
-def text(word: str) -> bytes:
-    return b"\x0D" + word.encode() + b"\0"
-
-
-# Objects of chapters 6 and 9, and one of WMI
-ROUTES = package(
-    package(b"\x0C\xFF\xFF\x01\0", b"\0", b"LNKA", b"\0"), package(b"\x0C\xFF\xFF\x1F\0", b"\1", b"\0", b"\x0A\x13"),
-    package(b"\x0C\1\0\x02\0", b"\x0A\2", b"LNKB", b"\x0A\3"),
-)  # fmt: skip
-PROPERTIES = buffer(data_of("14 D8 FF DA BA 6E 8C 4D 8A 91 BC 9B BF 4A A3 01"))
-PAIRS = package(package(text("label"), text("fan")), package(text("gpios"), package(b"^GPI0", b"\x0A\x13", b"\0")))
-PLACE = buffer(data_of("81 00 00 00 00 00 00 00 29 91 80 01 00 00 00 00"))
-BLOCKS = buffer(
-    data_of("21 12 90 05 66 D5 D1 11 B2 F0 00 A0 C9 06 29 10 41 41 01 00")
-    + data_of("21 12 90 05 66 D5 D1 11 B2 F0 00 A0 C9 06 29 10 42 41 01 02")
-    + data_of("6B 0F BC AB A1 8E D1 11 00 A0 C9 06 29 10 00 00 D0 00 02 09")
-)
-OBJECTS = (
-    b"\x08PR00" + ROUTES + method(b"_PRT", 0, b"\xA4PR00") + b"\x08_DSD" + package(PROPERTIES, PAIRS) + b"\x08_PLD" + package(PLACE)
-    + b"\x08_UPC" + package(b"\x0A\xFF", b"\x0A\3", b"\0", b"\0") + b"\x08_WDG" + BLOCKS
-    + method(b"_ADR", 0, b"\xA4" + ROUTES)
-)  # fmt: skip
-
-
 def decoded(folder: pathlib.Path, options: Options = Options()) -> tuple:
     """The listing of a folder, and what decodes it; None where it is refused."""
     outcome = run_folder(folder, options)
@@ -135,9 +88,7 @@ def decoded(folder: pathlib.Path, options: Options = Options()) -> tuple:
 
 def check_objects(checks: Tally, room: pathlib.Path) -> None:
     """Predefined objects in words, and values of another form without any."""
-    code = device(b"PCI0", OBJECTS)
-    odd = device(b"PCI1", b"\x08_PRT" + package(b"\0", package(b"\0")), b"\x08_UPC\0", b"\x08_WDG" + HPET)
-    listing, decoder = decoded(written(room / "objects", tables(code + odd)))
+    listing, decoder = decoded(written(room / "objects", tables(*SETS["objects"])))
     found = [(line.words[1], row) for line in listing.lines for row in decoder.rows(line)]
     wanted = [("PR00", route) for route in (
         "device 0x01 INTA to LNKA", "device 0x1F INTB to interrupt 19", "device 0x02 function 1 INTC to LNKB 3",
@@ -211,10 +162,11 @@ def made_set(room: pathlib.Path) -> pathlib.Path:
     choices = [code for text, _, code in rows if "Dependent" in text]
     codes = [code for text, _, code in rows if "Dependent" not in text] + [" ".join([*choices[:2], rows[0][2], choices[2]])]
     one = b"".join(b"\x08" + b"R%03d" % number + buffer(data_of(code) + b"\x79\0") for number, code in enumerate(codes))
-    return written(room / "made", tables(CODE, one))
+    return written(room / "made", tables(*SETS["notes"], one))
 
 
 def main() -> None:
+    folders = asked(__doc__, folders=()).folders
     with Tally() as checks:
         check_rows(checks)
         check_words(checks)
@@ -222,7 +174,7 @@ def main() -> None:
         check_notes(checks, made)
         check_objects(checks, checks.room)
         if shutil.which("iasl"):
-            for folder in (DEMO, made, *map(pathlib.Path, sys.argv[1:])):
+            for folder in (DEMO, made, *folders):
                 compare(checks, folder.name, folder)
         else:
             print("iasl is not there, so nothing is compared with it: on Debian, apt-get install acpica-tools")

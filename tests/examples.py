@@ -7,81 +7,19 @@ They run the program as they find it: ACPIDIS names another. With --stop the fir
 'N passed, N failed'.
 """
 
+import functools
 import itertools
 import os
 import re
+import shlex
 import subprocess
-import sys
 
-# Before the others, whose places it tells
-from tally import TOP, Tally, on_full_disk, run_script, timed, written
-from made_aml import device, packed as block, scope, table, tables
+from tally import TOP, Tally, asked, on_full_disk, run_script, timed, written
+from made_aml import SETS, device, method, table, tables
 
 
-def method(name, body, flags=0):
-    return block(b"\x14", name + bytes([flags]) + body)
-
-
-SUN = b"\x08_SUN\x01"
-EJECT = b"\\\x2f\x03_SB_PHPRPCEJ_SUN\x0a\x07"
-EJECTS = scope(b"\\_SB_", *(device(b"S00%d" % n, SUN, method(b"_EJ0", EJECT, 1)) for n in range(3)))
-SIZE = b"\x94\x87FOO_\x0a\x05\x0a\x04"  # LGreater (SizeOf (FOO_ (0x05)), 0x04)
-BRANCH = b"\x08CCCC\0" + device(b"DEV0", SUN, block(b"\xa0", b"\x93CCCC\x01" + method(b"FOO_", b"", 1)))
-REGION = b"\x5b\x80REG0\0"
-# The sets that tests/examples.txt names: the AML of the DSDT, and of SSDTs
-SETS = {
-    "ejects": [EJECTS],
-    # DVNT (\_SB_.PCIU, One) DVNT (\_SB_.PCID, 0x03) Reset (EVNT)
-    "rounds": [
-        method(b"DVNT", b"", 2)
-        + b"\x5b\x02EVNT"
-        + method(b"PCNT", b"DVNT\\\x2e_SB_PCIU\x01DVNT\\\x2e_SB_PCID\x0a\x03\x5b\x26EVNT")
-    ],
-    "places": [
-        device(b"DEV0", method(b"AAAA", b"\xa4ZZZZ\x01"), method(b"BBBB", b"\xa4^YYYY"), method(b"CCCC", b"\xa4^^^XXXX"))
-    ],
-    "outside": [b"\x08VALU\x11\x07VVVV\0\0" + method(b"MAIN", b"\xa4VVVV")],
-    "targets": [
-        method(b"FOO_", b"\xa4\x68", 1)
-        + b"\x08BAR_\x01"
-        + method(b"MAIN", block(b"\xa0", SIZE) + b"\x86FOO_\x01\x0a\x80\x5b\x23FOO_\x62\xff\xff")
-        + method(b"GOOD", b"\x70FOO_BAR_BAR_\x71BAR_\x08FOO_\x01\x75FOO_")
-        + b"\x06FOO_ALIA"
-        + method(b"LAST", b"\x72\x01\x01ALIA")
-        + b"\x15EXTM\x08\x02"
-        + method(b"MORE", b"\x87EXTM")
-        + method(b"REFS", b"\x5b\x12FOO_\x60\xa3\x70\x71FOO_\x60" + block(b"\xa0", b"\x8eFOO_\xa3") + b"\x8eFOO_\x0a\x07")
-    ],
-    "branch": [BRANCH],
-    # A call in front of its method, with a body that waits too
-    "ahead": [method(b"MAIN", b"QQQQ\x01") + b"PCRB\x0a\xad" + method(b"PCRB", b"", 1)],
-    "predicate": [block(b"\xa0", b"ZZZZ\x08WIN_\0")],
-    "differs": [
-        method(b"FOO_", b"", 1)
-        + device(
-            b"DEV0", block(b"\xa0", b"\x01" + method(b"FOO_", b"", 2)), method(b"BAR_", b"FOO_\x01"), method(b"SIZE", b"\x87FOO_")
-        )
-    ],
-    "second": [block(b"\xa0", b"\x01\x08FOO_\0") + method(b"FOO_", b"", 3) + block(b"\xa0", b"\x87FOO_\xa3")],
-    "promised": [b"\x15PCRB\x08\x02PCRB\x01\x01" + method(b"PCRB", b"", 1)],
-    "shifted": [method(b"FOO_", b"", 1) + REGION + b"FOO_\x01\x04"],
-    "twice": [SUN, SUN],
-    "wants": [SUN, scope(b"\\RP99", method(b"HOTP", b"", 2)), device(b"RP99")],
-    "argument": [REGION + b"FOO_\x01" + method(b"FOO_", b"", 1)],
-    "returns": [b"\xa4\0"],
-}
 GIVEN = "\\PCIU 0\n\\_SB_.PCIU 0\n\\_SB_.PCID 0\n"
 BAD_NAME = "a\" {\n      Raw {5A}\n$(touch bad)`touch bad`.dat"
-# The line of a table, without which nothing is a listing
-LINE = 'Table "a" "DSDT" Length 36 Revision 2 Oem "TEST  " "EXAMPLE " 00000001 Creator "TEST" 00000001'
-# A listing whose row of a path has marks
-MARKED = f"""{LINE}
-Namespace 1
-  \\FOO_ Method 1 Maybe Times 2
-DefinitionBlock ("a") {{
-  Notify (FOO_, One)
-}}
-"""
 
 
 class Tries(Tally):
@@ -98,82 +36,67 @@ class Tries(Tally):
     def run(self, script, *words, **variables):
         return run_script(script, *words, cwd=self.room, env={**os.environ, **variables})
 
-    def row(self, name, run, status, out, *said):
-        """This status and standard output, and these lines among those of standard error."""
+    def row(self, name, run, status, out, said=(), is_whole=True):
+        """This status and standard output, or these lines of it, and these lines among those of standard error."""
         missing = [line for line in said if line not in run.stderr.splitlines()]
+        missing += [] if is_whole else [line for line in out.splitlines() if line not in run.stdout.splitlines()]
         printed = f"{run.stdout}{run.stderr}wanted\n{out}{missing}"
-        is_right = run.returncode == status and run.stdout == out and not missing
+        is_right = run.returncode == status and (run.stdout == out or not is_whole) and not missing
         self.is_so(f"{name}: status {run.returncode}, not {status}\n{printed}", is_right)
+
+
+def make_sets(tries):
+    """The sets of tests/sets.txt, and some more."""
+    for name, codes in SETS.items():
+        written(tries.room / name, tables(*codes))
+    written(tries.room / "noted", {**tables(*SETS["twice"]), "notes.txt": b"no table"})
+    tries.folder("odd", *SETS["branch"], BAD_NAME)
+    tries.folder("$(touch bad)", *SETS["ejects"], BAD_NAME)
+    tries.folder("text", b'\x08TEXT\x0d"\n      Raw {5A}\nMethod (AAAA, 7, \0' + SETS["ejects"][0])
+    (tries.room / "given").write_text(GIVEN)
 
 
 def try_rows(tries):
     """The rows of tests/examples.txt."""
-    for name, codes in SETS.items():
-        written(tries.room / name, tables(*codes))
-    (tries.room / "given").write_text(GIVEN)
-    tries.fake("marked", f"cat <<'END'\n{MARKED}END\n")
     for part in (TOP / "tests/examples.txt").read_text().split("\n== ")[1:]:
-        name, command, *lines, ending = part.strip("\n").split("\n")
-        words = command.split()[1:]
+        name, _, rest = part.partition("\n")
+        if name.startswith("fake "):
+            tries.fake(name.removeprefix("fake "), rest)
+            continue
+        command, *lines, ending = rest.strip("\n").split("\n")
+        words = shlex.split(command)[1:]
         variables = {"ACPIDIS": str(tries.room / words.pop(0).partition("=")[2])} if "=" in words[0] else {}
         file = words.pop()[1:] if words[-1].startswith(">") else None
         run = tries.run(*words, **variables)
         said = [line.removeprefix("2> ") for line in lines if line.startswith("2> ")]
         out = "".join(f"{line}\n" for line in lines if not line.startswith("2> "))
-        tries.row(name, run, int(ending.removeprefix("status ")), out, *said)
+        _, status, *more = ending.split()
+        tries.row(name, run, int(status), out, said, not more)
         if file:
             (tries.room / file).write_text(run.stdout)
+    tries.is_so("nothing is executed", not list(tries.room.glob("**/bad")))
 
 
 def try_many_missing(tries):
     """Names in bodies of their own are tried together, so that many of them take as many runs as one; names in one body
     aren't, and end with a word."""
     names = [b"X%03d" % number for number in range(300)]
-    many = b"".join(method(b"M" + name[1:], b"\xa4" + name) for name in names)
+    many = b"".join(method(b"M" + name[1:], 0, b"\xa4" + name) for name in names)
     launched = subprocess.run([TOP / "acpidis", "--program"], capture_output=True, text=True, check=False)
     program, calls = os.environ.get("ACPIDIS") or launched.stdout.rstrip("\n"), tries.room / "calls"
     counting = tries.fake("counting", f"echo run >>'{calls}'\nexec '{program}' \"$@\"\n")
     found = tries.run("missing.py", "--try", tries.folder("many", many), ACPIDIS=counting)
     wanted = "".join(f"\\{name.decode()} 0\n" for name in names)
-    tries.row("300 names", found, 0, wanted, "# \\X299: 1 body waits, the first \\M299 at 1")
+    tries.row("300 names", found, 0, wanted, ["# \\X299: 1 body waits, the first \\M299 at 1"])
     tries.is_so("few runs", len(calls.read_text().splitlines()) < 30)
-    pair = method(b"MAIN", b"\x72AAAA\\BBBB\1\x60") + method(b"NEXT", b"\x70BBBB\x0a\1\x5b\x31")
+    pair = method(b"MAIN", 0, b"\x72AAAA\\BBBB\1\x60") + method(b"NEXT", 0, b"\x70BBBB\x0a\1\x5b\x31")
     found = tries.run("missing.py", tries.folder("pair", pair))
-    tries.row("two names of one body", found, 0, "\\AAAA ?\n\\BBBB ?\n", "#   with 0: 1 reads")
-
-
-def try_refused(tries):
-    """What takes no row: a line among others, and what isn't said."""
-    told = "  FOO_ takes 1 argument (Method at dsdt.dat, offset 0, byte 36 of the file), and was read without them"
-    tries.is_so("a call that shifts what follows", told in tries.run("refused.py", "shifted").stdout)
-    found = tries.run("refused.py", "returns").stdout
-    is_so = "`--any-run`" not in found and "A Return outside the methods" in found
-    tries.is_so("a Return, which the option doesn't take", is_so)
+    tries.row("two names of one body", found, 0, "\\AAAA ?\n\\BBBB ?\n", ["#   with 0: 1 reads"])
 
 
 def try_options(tries):
     """Options that a program's help has are passed on, whatever they are, and others are refused."""
-    said = tries.room / "said"
-    fake = tries.fake("later", f"""case $1 in --help) exec cat <<'END'
-Usage: acpidis [OPTIONS] <FOLDER>
-
-Options:
-      --from <FILE>  takes a value
-      --later        takes none
-      --check        gives no listing
-  -V, --version      gives none either
-
-Another part:
-      --other        is none of these
-END
-esac
-printf '%s\\n' "$@" >>'{said}'
-echo '{LINE}'
-echo Namespace 0
-echo 'DefinitionBlock ("a") {{'
-echo }}
-"""
-    )
+    said, fake = tries.room / "said", str(tries.room / "later")
     lines = {"calls.py": "", "missing.py": "", "refused.py": "the set isn't refused\n"}
     for script, line in lines.items():
         said.write_text("")
@@ -189,41 +112,31 @@ echo }}
 
 def try_damage(tries):
     """No table is so damaged that there is no answer."""
-    found = tries.run("refused.py", tries.folder("odd", BRANCH, BAD_NAME))
-    place = 'a" {\\x0A      Raw {5A}\\x0A$(touch bad)`touch bad`.dat, offset 20, byte 56 of the file, in the scope \\DEV0'
-    tries.is_so("a file's name", found.returncode == 1 and place in found.stdout.splitlines())
-    (tries.room / "twice/notes.txt").write_text("no table")
-    found = tries.run("refused.py", "twice")
-    tries.is_so("a text", found.returncode == 1 and "  6E 6F 20 74 61 62 6C 65\n" in found.stdout)
-    (tries.room / "twice/notes.txt").write_text("DSDT @ 0x0000000000000000\n    0000: 44 53 44 54 24 00 00 00\n")
-    found = tries.run("refused.py", "twice")
+    found = tries.run("refused.py", "returns").stdout
+    is_so = "`--any-run`" not in found and "A Return outside the methods" in found
+    tries.is_so("a Return, which the option doesn't take", is_so)
+    (tries.room / "noted/notes.txt").write_text("DSDT @ 0x0000000000000000\n    0000: 44 53 44 54 24 00 00 00\n")
+    found = tries.run("refused.py", "noted")
     tries.is_so("the text of acpidump", "Way on: `acpidis-unpack FILE FOLDER`" in found.stdout and not found.stderr)
-    (tries.room / "twice/notes.txt").unlink()
     said = "refused: cannot write: No space left on device\n"
     tries.is_same("a full disk", on_full_disk("refused.py", "twice", cwd=tries.room), (2, said))
-    tries.folder("damaged", BRANCH)
-    data, file = table(b"DSDT", BRANCH + REGION), tries.room / "damaged/dsdt.dat"
+    tries.folder("damaged", *SETS["branch"])
+    data, file = table(b"DSDT", SETS["branch"][0] + b"\x5b\x80REG0\0"), tries.room / "damaged/dsdt.dat"
     for at, byte in itertools.product(range(36, 86, 7), (0x00, 0x5B, 0xFF)):
         file.write_bytes(data[:at] + bytes([byte]) + data[at + 1 :])
         found = tries.run("refused.py", "--any-sum", "damaged")
         tries.is_so("a damaged table", found.returncode in (0, 1) and not found.stderr)
 
 
-def nested(levels):
-    """Devices in each other, around a Name."""
-    code = b"\x08DUPE\0"
-    for level in range(levels):
-        code = device(b"S%03d" % level, code)
-    return code
-
-
 def try_deep(tries):
     """Paths of many segments, and many names below them: an answer in time, or a line why not."""
     deep = b"\\\x2f\xff" + b"".join(b"S%03d" % level for level in range(255))
     longs = b"".join(b"\x08" + deep[:-4] + b"X%03d\0" % number for number in range(60))
-    tries.folder("nested", nested(480) * 2)
+    # Devices in each other, around a Name
+    nested = functools.reduce(lambda code, level: device(b"S%03d" % level, code), range(480), b"\x08DUPE\0")
+    tries.folder("nested", nested * 2)
     tries.folder("long", longs + b"\x08" + deep[:-4] + b"X000\0")
-    tries.folder("below", block(b"\x14", deep + b"\0" + b"\x70XXXX\x60" * 300))
+    tries.folder("below", method(deep, 0, b"\x70XXXX\x60" * 300))
     for folder in ("nested", "long", "below"):
         for command in ("refused.py", "refused.py --any-run", "calls.py --any-run", "missing.py --any-run"):
             script, *words = command.split()
@@ -235,51 +148,10 @@ def try_deep(tries):
     tries.is_so("the line of a deep scope", re.fullmatch("missing: line [0-9]+: a scope of more than 64 segments.*\n", found))
 
 
-def try_hostile(tries):
-    named = tries.folder("named", EJECTS, BAD_NAME)
-    text = tries.folder("text", b'\x08TEXT\x0d"\n      Raw {5A}\nMethod (AAAA, 7, \0' + EJECTS)
-    words = "$(touch bad)"
-    os.rename(tries.room / named, tries.room / words)
-    for script, status, out in [("missing.py", 0, "\\_SB_.PHPR.PCEJ 2\n"), ("calls.py", 0, "")]:
-        more = ["--try"] if script == "missing.py" else []
-        name = script.partition(".")[0]
-        tries.row(f"{script}: a file's name", tries.run(script, *more, words), status, out)
-        tries.row(f"{script}: a text", tries.run(script, *more, text), status, out)
-        refused = f"{name}: the set is refused: cannot read folder"
-        tries.row(f"{script}: no folder", tries.run(script, "nowhere"), 1, "", refused)
-        tries.row(f"{script}: a folder like an option", tries.run(script, "--", "--try"), 1, "", refused)
-        none = f"{name}: no program acpidis: install it, or name it in ACPIDIS"
-        tries.row(f"{script}: no program", tries.run(script, text, ACPIDIS="/none/acpidis"), 2, "", none)
-        for line in ("acpidis: body \\A: UnknownName at 0", "Raw {5A}", ""):
-            lines = f"echo '{LINE}'\necho Namespace 0\necho 'DefinitionBlock (\"a\") {{'\necho '{line}'\n"
-            lines += f"echo '{line}' >&2\nexit 3\n"
-            misfit = f"{name}: the lines of standard error don't fit the raw bodies of the text"
-            tries.row(f"{script}: another program", tries.run(script, text, ACPIDIS=tries.fake("other", lines)), 2, "", misfit)
-        found = tries.run(script, text, ACPIDIS=tries.fake("other", "echo 'Raw {A}'\nexit 3\n"))
-        tries.is_so(f"{script}: no bytes", found.returncode in (0, 2))
-        fake = tries.fake("other", "kill -9 $$\n")
-        tries.is_so(f"{script}: a signal", tries.run(script, text, ACPIDIS=fake).returncode == 2)
-        tries.is_so(f"{script}: no option", tries.run(script, "--none", text).returncode == 2)
-        tries.is_so(f"{script}: no folder named", tries.run(script).returncode == 2)
-    none = "refused: no program acpidis: install it, or name it in ACPIDIS"
-    tries.row("refused.py: no program", tries.run("refused.py", text, ACPIDIS="/none/acpidis"), 2, "", none)
-    tries.is_so("refused.py: a signal", tries.run("refused.py", text, ACPIDIS=fake).returncode == 2)
-    wanted = "cannot read folder\nWay on: look at `ls -la` of it\n"
-    tries.row("refused.py: no folder", tries.run("refused.py", "nowhere"), 1, wanted)
-    fake = tries.fake("other", "echo 'acpidis: table \"dsdt.dat\": BadName at 999999' >&2\nexit 1\n")
-    tries.is_so("refused.py: another program", tries.run("refused.py", text, ACPIDIS=fake).returncode == 1)
-    tries.is_so("nothing is executed", not list(tries.room.glob("**/bad")))
-
-
 def main():
-    with Tries("--stop" in sys.argv[1:]) as tries:
-        try_rows(tries)
-        try_many_missing(tries)
-        try_refused(tries)
-        try_options(tries)
-        try_damage(tries)
-        try_deep(tries)
-        try_hostile(tries)
+    with Tries(asked(__doc__, stop=False).stop) as tries:
+        for check in (make_sets, try_rows, try_many_missing, try_options, try_damage, try_deep):
+            check(tries)
 
 
 if __name__ == "__main__":

@@ -20,12 +20,10 @@ import sqlite3
 import subprocess
 import sys
 
-# Before the others, whose places it tells
-from tally import TOP, Tally, first_difference, module_of, on_full_disk, parser, run_script, written
+from tally import TOP, Tally, asked, first_difference, module_of, on_full_disk, run_script, written
 from acpidis_tools import command
-from board import VERSIONS
 from loading import path_text
-from made_aml import buffer, device, region, table, tables
+from made_aml import SETS, VERSIONS, table, tables
 from running import REFUSED, Options, Outcome, run_folder
 from acpidis_tools.schema import COLUMNS, REFERENCES
 from telling import Teller, samples, small, teller_of
@@ -151,11 +149,9 @@ def check_many(checks: Tally, room: pathlib.Path) -> None:
 
 # Facts of a folder, whose processes are ended at a text of these words, as by a system without memory, or get none.
 ENDS = """
-import importlib.util, os, sys
-sys.path.insert(0, os.path.dirname(sys.argv[1]))
-spec = importlib.util.spec_from_file_location("facts", sys.argv[1])
-facts = importlib.util.module_from_spec(spec)
-spec.loader.exec_module(facts)
+import os, sys
+sys.path[:0] = sys.argv.pop(1).split(":")
+import tally, facts
 real = facts.facts_of
 def facts_of(text, errors):
     if b"ENDED" in text:
@@ -164,7 +160,6 @@ def facts_of(text, errors):
         raise MemoryError
     return real(text, errors)
 facts.facts_of = facts_of
-sys.argv = sys.argv[1:]
 facts.main()
 """
 
@@ -196,7 +191,8 @@ def check_fleet(checks: Tally, room: pathlib.Path) -> None:
         written(room / "fleet" / name, {"text": text})
     (room / "fleet/pipe").mkdir()
     os.mkfifo(room / "fleet/pipe/text")
-    words = [sys.executable, "-c", ENDS, FACTS, "--jobs", "2", room / "fleet", room / "fleet.facts"]
+    words = [sys.executable, "-c", ENDS, f"{TOP}/examples:{TOP}/tests", "--jobs", 2]
+    words += [room / "fleet", room / "fleet.facts"]
     found = subprocess.run(list(map(str, words)), capture_output=True, text=True, check=False, timeout=60)
     checks.is_same(f"the status of a fleet: {found.stderr}", (found.returncode, found.stderr.count("\n")), (3, 1))
     machines = dict(rows_of(room / "fleet.facts", "SELECT name, fault FROM machine WHERE fault IS NOT NULL"))
@@ -210,21 +206,11 @@ def check_fleet(checks: Tally, room: pathlib.Path) -> None:
     checks.is_same("no part is left", (room / "fleet.facts.part").exists(), False)
 
 
-# I2cSerialBusV2, GpioInt by level and low, IRQ 5 by edge, an end tag.
-WIRED = bytes.fromhex(
-    "8E 19 00 02 00 01 02 00 00 01 06 00 80 1A 06 00 2C 00 5C 5F 53 42 2E 49 32 43 30 00"
-    "8C 1B 00 01 00 01 00 0A 00 00 00 00 64 00 17 00 00 19 00 1E 00 00 00 07 00 47 50 49 30 00"
-    "22 20 00 79 00"
-)
-
-
 def make_more(room: pathlib.Path) -> None:
     """Facts of the fields of tables, statements, resources and regions, for questions."""
     run(TOP / "tests/records.text", room / "records.facts")
-    inner = device(b"DEV1", region(b"REG1", 2, b"\0", b"\x01"))
-    bus = device(b"DEV0", b"\x08_ADR\x0C\x03\x00\x1F\x00", region(b"REG0", 2, b"\x0A\x40", b"\x01"), inner)
-    for name, code in (("wired", device(b"DEV0", b"\x08_CRS" + buffer(WIRED))), ("pci", bus)):
-        outcome = run_folder(written(room / name, tables(code)), Options())
+    for name in ("wired", "pci"):
+        outcome = run_folder(written(room / name, tables(*SETS[name])), Options())
         (room / f"{name}.text").write_text(outcome.out)
         run(room / f"{name}.text", room / f"{name}.facts")
 
@@ -270,11 +256,9 @@ def check_words(checks: Tally, room: pathlib.Path) -> None:
 
 
 def main() -> None:
-    words = parser(__doc__, folders=True)
-    words.add_argument("--sets", type=int, default=40)
-    asked = words.parse_args()
+    words = asked(__doc__, sets=40, folders=())
     with Tally() as checks:
-        for sample in samples(checks.room, asked.folders, asked.sets):
+        for sample in samples(checks.room, words.folders, words.sets):
             check_set(checks, *sample)
         room = checks.room / "many"
         room.mkdir()

@@ -76,7 +76,7 @@ cut_off() {
 
 # table FILE SIGNATURE AML: writes a table with this AML, which is given in hexadecimal digits
 table() {
-    PYTHONPATH=$top/tests python3 -B -c 'import sys
+    PYTHONPATH=$top/tests:$top/tests/oracle python3 -B -c 'import sys
 from made_aml import table
 open(sys.argv[1], "wb").write(table(sys.argv[2].encode(), bytes.fromhex(sys.argv[3])))' "$@"
 }

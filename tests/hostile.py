@@ -16,8 +16,7 @@ import re
 import resource
 import subprocess
 
-# Before the others, whose places it tells
-from tally import TOP, Tally, module_of, on_full_disk, parser, run_script, timed, written
+from tally import TOP, Tally, asked, module_of, on_full_disk, run_script, timed, written
 from acpidis_tools.errors import read_errors
 from acpidis_tools.listing import NoListing
 from acpidis_tools.page.markup import page
@@ -26,14 +25,21 @@ from acpidis_tools.page.sheet import Sheet
 from telling import HOSTILE_FILES, RUNS_FILES
 
 facts_script = module_of("facts_script", TOP / "examples/facts.py")
-HEAD = 'Table "d" "DSDT" Length 67 Revision 2 Oem "TEST  " "EXAMPLE " 00000001 Creator "TEST" 00000001\n'
 SECONDS, MOST_MEMORY = 2, 1_000_000_000
 MANY, LONG = 6_000, 16_000
 
 
-def text_of(rows: list, lines: list) -> str:
-    shown = "".join(f"  {row}\n" for row in rows)
-    return HEAD + f"Namespace {len(rows)}\n{shown}DefinitionBlock (\"d\") {{\n" + "".join(f"  {line}\n" for line in lines) + "}\n"
+def head_of(file: str, signature: str, revision: int = 2) -> str:
+    """The line of a table."""
+    names = f'Table "{file}" "{signature}" Length 67 Revision {revision} Oem "TEST  " "EXAMPLE "'
+    return f'{names} 00000001 Creator "TEST" 00000001\n'
+
+
+def text_of(rows: list, lines: list, file: str = "d", revision: int = 2) -> str:
+    """A listing with these rows, and with these lines in its one definition block."""
+    shown, inside = ("".join(f"  {it}\n" for it in some) for some in (rows, lines))
+    block = f'DefinitionBlock ("{file}") {{\n{inside}}}\n'
+    return f"{head_of(file, 'DSDT', revision)}Namespace {len(rows)}\n{shown}{block}"
 
 
 def body(*lines: str, path: str = "\\AAAA", rows: tuple = ()) -> str:
@@ -198,13 +204,11 @@ def check_mutations(checks: Tally, room: pathlib.Path, count: int) -> None:
 
 
 def main() -> None:
-    words = parser(__doc__)
-    words.add_argument("--mutations", type=int, default=200)
-    asked = words.parse_args()
+    count = asked(__doc__, mutations=200).mutations
     with Tally() as checks:
         check_texts(checks, checks.room)
         check_outputs(checks, checks.room)
-        check_mutations(checks, checks.room, asked.mutations)
+        check_mutations(checks, checks.room, count)
 
 
 if __name__ == "__main__":

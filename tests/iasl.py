@@ -5,25 +5,13 @@ import re
 import subprocess
 from typing import NamedTuple
 
-# What a keyword of ASL is in our words: nothing where it is what most have.
-KEYWORDS = {
-    "Edge": "edge", "Level": "level", "ActiveLow": "low", "ActiveBoth": "both", "Shared": "shared",
-    "SharedAndWake": "shared wake",
-    "ExclusiveAndWake": "wake", "ReadOnly": "read-only", "NonCacheable": "not cacheable", "WriteCombining": "write-combining",
-    "Prefetchable": "prefetchable", "AddressRangeReserved": "reserved", "AddressRangeACPI": "ACPI data", "AddressRangeNVS": "NVS",
-    "SubDecode": "subtractive", "MinNotFixed": "first not fixed", "MaxNotFixed": "last not fixed", "ISAOnlyRanges": "ISA range",
-    "NonISAOnlyRanges": "non-ISA range", "TypeTranslation": "as the other", "SparseTranslation": "sparse",
-    "Decode10": "10 bits decoded", "Compatibility": "compatibility", "TypeA": "type A", "TypeB": "type B", "TypeF": "type F",
-    "BusMaster": "bus master", "Transfer8": "8 bits", "Transfer8_16": "8 and 16 bits", "Transfer16": "16 bits",
-    "IoRestrictionInputOnly": "input", "IoRestrictionOutputOnly": "output", "IoRestrictionNoneAndPreserve": "preserved",
-    "PullUp": "pull up", "PullDown": "pull down", "PullNone": "no pull", "ThreeWireMode": "3 wires",
-    "PolarityHigh": "select high",
-    "ClockPhaseSecond": "second phase", "ClockPolarityHigh": "polarity high", "AddressingMode10Bit": "10-bit address",
-    "Width8bit": "8 bits", "Width16bit": "16 bits", "Width32bit": "32 bits", "Width64bit": "64 bits",
-}
+# What a keyword of ASL is in our words
+LINES = (pathlib.Path(__file__).parent / "iasl.txt").read_text().splitlines()[1:]
+KEYWORDS = dict(line.split(" ", 1) for line in LINES)
 FIELD = re.compile(r"^ *(?:Index|Bank)?Field \((.*)\)$")
 SPACE = re.compile(r"OperationRegion \((\S+), ([^,]+),")
-UNIT = re.compile(r"^ +([A-Z_0-9]{1,4}), +(\d+)")
+# A unit of a field list, or a gap without a name
+UNIT = re.compile(r"^ +([A-Z_0-9]{0,4}), +(\d+)")
 MACRO = re.compile(r"(\w+) +\(((?:[^()\"]|\"[^\"]*\")*)\)(?:\s*\{([0-9A-Fx,\s]*)\})?")
 
 
@@ -65,8 +53,7 @@ def templates(text: str) -> "list[str]":
     """What stands in the braces of each ResourceTemplate, whose macros may have braces of their own, and in the
     parentheses of each Connection."""
     heads = re.finditer(r"ResourceTemplate \(\)\s*\{|Connection \(", text)
-    pairs = {"{": "{}", "(": "()"}
-    return [text[head.end():behind(text, head.end(), pairs[head[0][-1]]) - 1] for head in heads]
+    return [text[head.end():behind(text, head.end(), {"{": "{}", "(": "()"}[head[0][-1]]) - 1] for head in heads]
 
 
 def without_connections(text: str) -> str:
@@ -88,10 +75,9 @@ def units(text: str):
             is_inside = False
         elif is_inside:
             unit, offset = UNIT.match(line), re.match(r" +Offset \((0x[0-9A-F]+)\)", line)
-            gap = re.match(r" +, +(\d+)", line)
-            if unit:
+            if unit and unit[1]:
                 yield f"{unit[1].ljust(4, '_')} {bit} {unit[2]}"
-            bit = 8 * int(offset[1], 16) if offset else bit + int((unit and unit[2]) or (gap and gap[1]) or 0)
+            bit = 8 * int(offset[1], 16) if offset else bit + int(unit[2] if unit else 0)
 
 
 class Macro(NamedTuple):
@@ -117,11 +103,7 @@ def macro_text(form: "re.Match[str]") -> str:
     macro = Macro(form[1].removesuffix("V2"), arguments, listed, [KEYWORDS[one] for one in arguments if one in KEYWORDS])
     source = next((one.strip('"') for one in arguments if one[:1] == '"' and one != '""'), "").replace("\\\\", "\\")
     shown = TEXTS.get(macro.kind, spaced)(macro)
-    return joined(*shown) + (f" by {source}" if source else "")
-
-
-def joined(*parts: str) -> str:
-    return " ".join(filter(None, parts))
+    return " ".join(filter(None, [*shown, source and f"by {source}"]))
 
 
 def io(macro: Macro) -> tuple:
@@ -175,12 +157,11 @@ ORDER = (
 
 
 def gpio(macro: Macro) -> tuple:
-    is_int = macro.kind == "GpioInt"
     pull = [word for word in macro.words if word.startswith(("pull", "no pull"))]
-    mode = [word for word in macro.words if word not in pull]
-    if not is_int:
+    mode, debounce, strength = [word for word in macro.words if word not in pull], macro.numbers[0], 0
+    if macro.kind == "GpioIo":
         mode.sort(key=lambda word: word == "shared")
-    strength, debounce = 0 if is_int else macro.numbers[1], macro.numbers[0]
+        strength = macro.numbers[1]
     more = f"drive {strength}" if strength else "", f"debounce {debounce}" if debounce else ""
     return macro.kind, macro.lines, *mode, *pull, *more
 
@@ -192,10 +173,8 @@ TEXTS = {
     "DMA": lambda it: ("DMA", it.lines, *(KEYWORDS.get(it.arguments[place], "") for place in (0, 2, 1))),
     "FixedDMA": lambda it: (it.kind, str(it.numbers[0]), f"channel {it.numbers[1]}", *it.words),
     "StartDependentFn": lambda it: (it.kind, "priority {} robustness {}".format(*(int(one, 0) for one in it.arguments[:2]))),
-    "StartDependentFnNoPri": lambda it: (it.kind,),
-    "EndDependentFn": lambda it: (it.kind,),
-    "VendorShort": lambda it: (it.kind, f"{len(it.listed)} bytes"),
-    "VendorLong": lambda it: (it.kind, f"{len(it.listed)} bytes"),
+    **dict.fromkeys(("StartDependentFnNoPri", "EndDependentFn"), lambda it: (it.kind,)),
+    **dict.fromkeys(("VendorShort", "VendorLong"), lambda it: (it.kind, f"{len(it.listed)} bytes")),
     "Interrupt": lambda it: (it.kind, it.lines, "producer" if "ResourceProducer" in it.arguments else "", *it.words),
     "I2cSerialBus": lambda it: (f"{it.kind} 0x{it.numbers[0]:04X} {it.numbers[1]} Hz", *it.words),
     "UartSerialBus": lambda it: (it.kind, f"{it.numbers[0]} baud"),

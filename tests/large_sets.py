@@ -11,21 +11,20 @@ written down here, after docs/listing.md, docs/limits.md and docs/names.md. The 
 
 import concurrent.futures
 import dataclasses
+import functools
 import gc
 import itertools
 import os
 import pathlib
-import string
-import sys
 import tempfile
-from typing import NamedTuple
+from collections import namedtuple
 
-from tally import PROGRAM, Tally, parser, written  # before the others, whose places it tells
+from tally import PROGRAM, Tally, asked, written
 from compare import first_difference, run_program
 from dumps import HEADER_LENGTH, MOST_BYTES, MOST_DUMPS, dumps_of
 from loading import MOST_METHODS
 from made_code import MOST_SEGMENTS
-from made_aml import device, method, packed, scope, table
+from made_aml import SETS, device, method, packed, scope, segment, table, tables
 from running import DONE, RAW, Options, Outcome, refused, run, run_folder
 
 LIST, CHECK = Options(), Options(check=True)
@@ -38,30 +37,7 @@ METHOD_LENGTH = 10
 # The text of a table that `table` makes, up to its length and behind it.
 BEGUN, ENDED = f'Table "{BLOCK}" "DSDT" Length ', ' Revision 2 Oem "TEST  " "EXAMPLE " 00000001 Creator "TEST" 00000001\n'
 
-# The AML of tables, of which the last five are refused.
-TABLES = (
-    b"\x14\x08FOO_\x01\xA4h",
-    b"\x08BAR_\x0A\x05\x14\x0BFOO_\x02\xA4rhi\x00",
-    b"\x08BAR_\x0A\x05\x14\x0CFOO_\x00pBAR_`",
-    b"\x14\x0EAAAA\x00\xA4BBBB\x01\x0A\x05\x14\x06BBBB\x02",
-    b"\x14G\x00FOO_\x00\x08BAR_\x00[\x82\x05DEV0[\x83\x0BCPU0\x01\x10\x04\x00\x00\x06[\x84\x08PWR0\x01\x02\x00[\x85\x05TZ00"
-    b"[\x01MTX0\x00[\x02EVT0[\x88DRG0\x0D\x00\x0D\x00\x0D\x00\x8CBAR_\x00BYT0",
-    b"\x10\x03\\\x00\x10\x02\x00",
-    b"\xA0\x10\x00\x15AAAA\x08\x02\x15BBBB\x05\x00",
-    b"\x14\x06MMMM\x03\x06MMMMALIA\x14\x0ECALL\x00ALIA`ab\xA3",
-    b"\x14\x06BBBB\x01\x10\x1A\\_SB_[\x82\x12DEV0\x14\x0CAAAA\x00\xA4BBBB`",
-    b"[\x80REG0\x01\x0B\x00\x04\x0A\x10[\x81\x10REG0\x01\x00\x08FLD0\x08\x01\x01\x00",
-    b"[\x81J\x02GNVS\x01ABCDH\x00\x00\x80\x00\x01\x01\x03\x00\x02\\._SB_GPIO\x03\x01\x0B\x04\x02\x11\x05\x0A\x02\x00y",
-    b"\x15BBBB\x08\x02\x14\x0EAAAA\x00\xA4BBBB\x01\x0A\x05",
-    b"\x14\x17AAAA\x00BBBB\x01\x01\x08BBBB\x00\xA4BBBB\x14\x06BBBB\x02",
-    b"\x08AAAB\x00[\x82\x0BAAAA\x08ZZZZ\x00\x08AAA_\x00\x08\\_GL_\x00\x14\x07\\_OSI\x02",
-    b"\x10\x0B\\_SB_[\x82\x05DEV0\x00",
-    b"\x14\x06BBBB\x01[\x80REG0\x01BBBB\x01",
-    b"\x08FOO_\x00\x08FOO_\x00",
-    b"\x14\x06MMMM\x03\x06MMM_ALIA",
-    b"\x08FOO_\x00\xA0\x02\x01",
-)
-# How many of their cuts, the whole tables among them, are taken, and how many bodies of two bytes are read as terms.
+# How many of the cuts, the whole tables among them, are taken, and how many bodies of two bytes are read as terms.
 TAKEN_CUTS, READ_BODIES = 60, 880
 # The methods of the mixed order, and how many names are looked up that nothing declares. The step has no factor in common
 # with the number of methods, so that each comes once.
@@ -70,13 +46,8 @@ MIXED, OTHERS, STEP = 20_000, 500, 7_919
 CHAINED, STRIDE, INNER = 1_000, 50, 100
 
 
-class Trial(NamedTuple):
-    """A set, the options of a run over it, and how that has to end; the independent reading says it where nothing stands."""
-
-    name: str
-    files: dict
-    options: Options = LIST
-    wanted: Outcome | None = None
+# A set, the options of a run over it, and how that has to end; the independent reading says it where nothing stands
+Trial = namedtuple("Trial", "name files options wanted", defaults=[LIST, None])
 
 
 def difference_of(program, trial):
@@ -96,16 +67,11 @@ def check(checks, trial, difference):
 # ---- beside the independent reading
 
 
-def one(code):
-    """A set of one DSDT of this AML."""
-    return {BLOCK: table(b"DSDT", code)}
-
-
 def cuts():
-    for number, code in enumerate(TABLES, 1):
+    for number, code in enumerate(SETS["cuts"], 1):
         for length in range(len(code) + 1):
             for options in LIST, CHECK:
-                yield Trial(f"table {number} cut to {length} bytes", one(code[:length]), options)
+                yield Trial(f"table {number} cut to {length} bytes", tables(code[:length]), options)
 
 
 def listed_and_checked(name, files, checks):
@@ -121,11 +87,6 @@ def check_line(file, size, methods, raw):
     return f'Check "{file}" Bytes {size} Methods {methods} Raw {raw} Same\n'
 
 
-def segment(number):
-    """Four letters for a number below 456,976, in the order of the numbers."""
-    return bytes(ord("A") + number // 26 ** place % 26 for place in (3, 2, 1, 0))
-
-
 def within_if(code):
     return packed(b"\xA0", b"\1" + code)
 
@@ -134,7 +95,7 @@ def bodies_of_two_bytes():
     count = 1 << 16
     code = b"".join(b"\x14\x08" + segment(number) + b"\0" + number.to_bytes(2, "big") for number in range(count))
     check = check_line(BLOCK, len(code), count, count - READ_BODIES)
-    return listed_and_checked("all bodies of two bytes", one(code), [check])
+    return listed_and_checked("all bodies of two bytes", tables(code), [check])
 
 
 def a_mixed_order():
@@ -145,43 +106,32 @@ def a_mixed_order():
     calls = method(b"MAIN", 0, *(segment(number) + b"\x60" * (number % 8) for number in range(MIXED)))
     others = (method(b"Z%03d" % number, 0, segment(MIXED + number)) for number in range(OTHERS))
     calls += b"".join(others)
-    files = {**one(code), "ssdt1.dat": table(b"SSDT", calls)}
     checks = [check_line(BLOCK, len(code), MIXED, 0), check_line("ssdt1.dat", len(calls), OTHERS + 1, OTHERS)]
-    return listed_and_checked("methods in a mixed order", files, checks)
+    return listed_and_checked("methods in a mixed order", tables(code, calls), checks)
 
 
-def tables(count):
-    """A DSDT and SSDTs, each of which declares a name."""
-    names = [BLOCK, *(f"ssdt{number}.dat" for number in range(1, count))]
-    codes = (b"\x08" + segment(number) + b"\0" for number in range(count))
-    return {name: table(b"DSDT" if name == BLOCK else b"SSDT", code) for name, code in zip(names, codes)}
-
-
-def blocks(count):
-    """Ifs, one in the other. The predicate of the last one is a level below it."""
-    code = b""
-    for _ in range(count):
-        code = within_if(code)
-    return one(code)
-
-
-def nested_blocks():
-    """Code outside methods goes 512 levels deep."""
-    for options in (LIST_RUNS, CHECK_RUNS):
-        yield Trial("511 Ifs", blocks(511), options)
-    yield Trial("512 Ifs", blocks(512), LIST_RUNS)
-
-
-def a_path_declared_again():
-    code = b"\x08AAAA\0" * 100
-    files = {BLOCK: table(b"DSDT", code), "ssdt1.dat": table(b"SSDT", code)}
-    yield Trial("a path declared 200 times", files, LIST_RUNS)
-    yield Trial("a path declared 200 times", files, LIST)
+def what_has_a_limit():
+    """Code outside methods goes 512 levels deep, where the predicate of the last If is a level below it; the most
+    files, and the most bytes; and a path that is declared again and again."""
+    ifs = functools.reduce(lambda code, _: within_if(code), range(511), b"")
+    for options in LIST_RUNS, CHECK_RUNS:
+        yield Trial("511 Ifs", tables(ifs), options)
+    yield Trial("512 Ifs", tables(within_if(ifs)), LIST_RUNS)
+    for options in LIST_RUNS, LIST:
+        yield Trial("a path declared 200 times", tables(*[b"\x08AAAA\0" * 100] * 2), options)
+    for count in MOST_DUMPS, MOST_DUMPS + 1:
+        yield Trial(f"{count} empty files", dict.fromkeys(map(str, range(count)), b""))
+        yield Trial(f"{count} tables", tables(*(b"\x08" + segment(number) + b"\0" for number in range(count))))
+    most = tables(*(b"\x08" + segment(number) + b"\0" for number in range(MOST_DUMPS)))
+    yield Trial(f"{MOST_DUMPS} tables", most, CHECK)
+    for size in MOST_BYTES, MOST_BYTES + 1:
+        yield Trial(f"{size} zeros", {BLOCK: bytes(size)})
+        yield Trial(f"a table in {size} bytes", {BLOCK: table(b"DSDT", SETS["cuts"][0]).ljust(size, b"\0")})
 
 
 def by_workers(name, code):
     """The listing and the check of a set with code outside methods, each by some numbers of workers."""
-    files = one(code)
+    files = tables(code)
     for options in LIST_RUNS, CHECK_RUNS:
         outcome = run(dumps_of(files), options)
         for workers in WORKERS:
@@ -235,19 +185,6 @@ def scopes_of_no_scope():
     return by_workers("Scopes of what is no scope", code)
 
 
-def the_most_files():
-    for count in MOST_DUMPS, MOST_DUMPS + 1:
-        yield Trial(f"{count} empty files", dict.fromkeys(map(str, range(count)), b""))
-        yield Trial(f"{count} tables", tables(count))
-    yield Trial(f"{MOST_DUMPS} tables", tables(MOST_DUMPS), CHECK)
-
-
-def the_most_bytes():
-    for size in MOST_BYTES, MOST_BYTES + 1:
-        yield Trial(f"{size} zeros", {BLOCK: bytes(size)})
-        yield Trial(f"a table in {size} bytes", {BLOCK: table(b"DSDT", TABLES[0]).ljust(size, b"\0")})
-
-
 # ---- written down
 
 
@@ -256,8 +193,8 @@ def of_one_method(name, body, lines):
     code = method(b"MAIN", 0, body)
     head = [f"{BEGUN}{HEADER_LENGTH + len(code)}{ENDED}", "Namespace 1\n", "  \\MAIN Method 0\n"]
     block = [f'DefinitionBlock ("{BLOCK}") {{\n', "  Method (MAIN, 0, NotSerialized, 0) {\n", *lines, "  }\n", "}\n"]
-    yield Trial(name, one(code), LIST, Outcome(DONE, "".join(head + block), ""))
-    yield Trial(name, one(code), CHECK, Outcome(DONE, check_line(BLOCK, len(code), 1, 0), ""))
+    yield Trial(name, tables(code), LIST, Outcome(DONE, "".join(head + block), ""))
+    yield Trial(name, tables(code), CHECK, Outcome(DONE, check_line(BLOCK, len(code), 1, 0), ""))
 
 
 def a_long_body():
@@ -270,48 +207,41 @@ def parent_prefixes():
     room = MOST_BYTES - HEADER_LENGTH
     name = b"^" * (room - 6) + b"BBBB"
     above = refused(f'table "{BLOCK}": AboveRoot')
-    yield Trial("a declared name of ^", one(b"\x08" + name + b"\0"), LIST, above)
+    yield Trial("a declared name of ^", tables(b"\x08" + name + b"\0"), LIST, above)
     name = b"^" * (room - METHOD_LENGTH - 5) + b"BBBB"
     yield from of_one_method("a target of ^", b"\x71" + name, [f"    RefOf ({name.decode()})\n"])
 
 
-def ascending(count):
-    """Segments in the order of their bytes."""
-    others = string.digits + string.ascii_uppercase
-    return itertools.islice(map("".join, itertools.product(string.ascii_uppercase, *[others] * 3)), count)
-
-
-def lines_of_empty_methods(count):
+def lines_of_empty_methods(names):
     """Their listing as the AML of a table, line by line."""
-    yield f"{BEGUN}{HEADER_LENGTH + 7 * count}{ENDED}"
-    yield f"Namespace {count}\n"
-    yield from (f"  \\{name} Method 0\n" for name in ascending(count))
+    yield f"{BEGUN}{HEADER_LENGTH + 7 * len(names)}{ENDED}"
+    yield f"Namespace {len(names)}\n"
+    yield from (f"  \\{name} Method 0\n" for name in names)
     yield f'DefinitionBlock ("{BLOCK}") {{\n'
-    for name in ascending(count):
-        yield f"  Method ({name}, 0, NotSerialized, 0) {{\n"
-        yield "  }\n"
+    yield from (f"  Method ({name}, 0, NotSerialized, 0) {{\n  }}\n" for name in names)
     yield "}\n"
 
 
 def the_most_methods():
     """The limit is met before the place of a name is looked at. A set has one limit, whichever tables have the methods."""
-    code = b"".join(b"\x14\x06%s\0" % name.encode() for name in ascending(MOST_METHODS))
-    most, above, more = one(code), b"\x14\x07^ABCD\0", b"\x14\x06ZZZZ\0"
-    text, checked = "".join(lines_of_empty_methods(MOST_METHODS)), check_line(BLOCK, len(code), MOST_METHODS, 0)
+    names = [segment(number).decode() for number in range(MOST_METHODS)]
+    code = b"".join(b"\x14\x06%s\0" % name.encode() for name in names)
+    most, above, more = tables(code), b"\x14\x07^ABCD\0", b"\x14\x06ZZZZ\0"
+    text, checked = "".join(lines_of_empty_methods(names)), check_line(BLOCK, len(code), MOST_METHODS, 0)
     yield Trial("the most methods", most, LIST, Outcome(DONE, text, ""))
     yield Trial("the most methods", most, CHECK, Outcome(DONE, checked, ""))
     for name, files, fault in [
-        ("a method too many", one(code + more), "TooManyMethods"),
-        ("a method too many in an SSDT", {**most, "ssdt1.dat": table(b"SSDT", more)}, "TooManyMethods"),
-        ("a method too many above the root", one(code + above), "TooManyMethods"),
-        ("the last method above the root", one(code[:-7] + above), f'table "{BLOCK}": AboveRoot'),
+        ("a method too many", tables(code + more), "TooManyMethods"),
+        ("a method too many in an SSDT", tables(code, more), "TooManyMethods"),
+        ("a method too many above the root", tables(code + above), "TooManyMethods"),
+        ("the last method above the root", tables(code[:-7] + above), f'table "{BLOCK}": AboveRoot'),
     ]:
         yield Trial(name, files, LIST, refused(fault))
 
 
 LARGE = (
-    bodies_of_two_bytes, nested_blocks, a_path_declared_again, below_maybes, chains_of_aliases, scopes_of_no_scope,
-    a_mixed_order, the_most_files, the_most_bytes, a_long_body, parent_prefixes, the_most_methods,
+    bodies_of_two_bytes, what_has_a_limit, below_maybes, chains_of_aliases, scopes_of_no_scope, a_mixed_order,
+    a_long_body, parent_prefixes, the_most_methods,
 )  # fmt: skip
 
 
@@ -327,17 +257,11 @@ def check_cuts(checks, program):
 
 
 def main():
-    words = parser(__doc__)
-    words.add_argument("--stop", action="store_true")
-    words.add_argument("program", nargs="?", type=pathlib.Path, default=PROGRAM)
-    asked = words.parse_args()
-    program = asked.program.resolve()
-    if not program.exists():
-        sys.exit("the program isn't built: ./acpidis demo builds it")
-    with Tally(asked.stop) as checks:
-        check_cuts(checks, program)
+    words = asked(__doc__, stop=False, program=PROGRAM)
+    with Tally(words.stop) as checks:
+        check_cuts(checks, words.program)
         for trial in itertools.chain.from_iterable(make() for make in LARGE):
-            check(checks, trial, difference_of(program, trial)[0])
+            check(checks, trial, difference_of(words.program, trial)[0])
 
 
 if __name__ == "__main__":

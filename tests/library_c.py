@@ -26,12 +26,11 @@ import sys
 import tempfile
 import time
 
-from tally import DEMO, PROGRAM, TOP, Tally, parser, timed, written  # before the others, whose places it tells
+from tally import DEMO, PROGRAM, TOP, Tally, asked, timed, written
 from compare import write_trial
-from made_aml import tables
+from made_aml import device, each, method, mixed, scope, segment, tables
 from made_sets import SetMaker
 from running import Options
-import sets
 
 LIBRARY, CRATE = TOP / "library", TOP / "crates/acpidis_c"
 sys.path.insert(0, str(LIBRARY))
@@ -162,12 +161,6 @@ def row_text(row):
 METHOD = re.compile(r"^( *)Method \(.*\) \{\n((?:\1  .*\n)*)\1\}$", re.MULTILINE)
 
 
-def bodies_in(text):
-    """The lines of the bodies of a text's methods, without their indent, or those of their bytes."""
-    for told in METHOD.finditer(text):
-        yield re.sub(f"^{told[1]}  ", "", told[2], flags=re.MULTILINE)
-
-
 def is_told(listing, files):
     """Whether the values of a listing stand in its text: rows, methods, faults and bodies, a raw one by its bytes."""
     lines = listing.text.split("\n")
@@ -178,7 +171,8 @@ def is_told(listing, files):
         return "methods"
     if [(method.path, method.fault) for method in listing.methods if method.fault] != listing.faults:
         return "faults"
-    told = list(bodies_in(listing.text))
+    # The lines of the bodies, without their indent, or those of their bytes
+    told = [re.sub(f"^{it[1]}  ", "", it[2], flags=re.MULTILINE) for it in METHOD.finditer(listing.text)]
     for method, lines in zip(listing.methods, told):
         code = files[method.table][method.offset : method.offset + method.length]
         raw = "Raw {" + ", ".join(f"{byte:02X}" for byte in code) + "}\n"
@@ -245,9 +239,17 @@ def both_ways(checks, room, lib, program, folder):
     return (program, "--workers", "1", "--any-run", folder), (example, "--any-run", folder)
 
 
+def devices(count):
+    """So many methods, 20 in each Device of a bus, which name a method beside them and one at the root."""
+    bodies = (b"\x70" + segment((number + 1) % 20) + b"\x60\xa4GLOB" for number in range(20))
+    inner = b"".join(method(segment(number), 0, body) for number, body in enumerate(bodies))
+    bus = device(b"PCI0", each(mixed(count // 20), lambda name: device(name, inner)))
+    return tables(method(b"GLOB", 0, b"\xa4\x01") + scope(b"_SB_", bus))
+
+
 def try_cost(checks, room, lib, program):
     """The instructions of a call beside those of the program."""
-    folder = written(room / "devices", {"dsdt.dat": sets.devices(10_000)})
+    folder = written(room / "devices", devices(10_000))
     counts = []
     for words in both_ways(checks, room, lib, program, folder):
         ran = run("valgrind", "--tool=callgrind", f"--callgrind-out-file={room / 'counts'}", *words)
@@ -271,23 +273,16 @@ def show_cost(checks, room, lib, program, folders):
 
 
 def main():
-    words = parser(__doc__)
-    words.add_argument("--sets", type=int, default=150, help="so many made-up sets of each kind")
-    words.add_argument("--cost", action="store_true", help="only say what calls take")
-    words.add_argument("program", nargs="?", type=pathlib.Path, default=PROGRAM)
-    words.add_argument("folders", nargs="*", type=pathlib.Path)
-    asked = words.parse_args()
-    program = asked.program.resolve()
-    if not program.exists():
-        sys.exit("the program isn't built: ./acpidis demo builds it")
+    words = asked(__doc__, sets=150, cost=False, program=PROGRAM, folders=())
+    program = words.program
     with Tally() as checks:
         room = checks.room
         lib = link(room)
         os.environ["ACPIDIS_LIBRARY"] = str(lib / "libacpidis.so.0")
         # Those that are given, or the folders directly in them
-        given = [sorted(it for it in folder.iterdir() if it.is_dir()) or [folder] for folder in asked.folders]
+        given = [sorted(it for it in folder.iterdir() if it.is_dir()) or [folder] for folder in words.folders]
         folders = [DEMO, *itertools.chain.from_iterable(given)]
-        if asked.cost:
+        if words.cost:
             show_cost(checks, room, lib, program, folders)
             sys.exit()
         acpidis = importlib.import_module("acpidis")
@@ -296,7 +291,7 @@ def main():
         try_cost(checks, room, lib, program)
         try_example(checks, room, lib, program, folders)
         try_page(checks, acpidis, room)
-        try_python(checks, acpidis, program, folders, asked.sets)
+        try_python(checks, acpidis, program, folders, words.sets)
 
 
 if __name__ == "__main__":

@@ -10,12 +10,11 @@ out/acpidis if left out. The sweep takes some minutes, with --short seconds. Wit
 it. The last line is 'N passed, N failed'.
 """
 
-import pathlib
 import subprocess
 
-# Before the others, whose places it tells
-from tally import PROGRAM, Tally, parser, written
+from tally import PROGRAM, Tally, asked, written
 import hostile_shapes as shapes
+from made_aml import tables
 from running import DONE, Options, Outcome, refused, run_folder
 
 SETS = {
@@ -24,7 +23,7 @@ SETS = {
     "packages": lambda: shapes.packages(50, 508),
     "devices": lambda: shapes.nested(510, 1),
     "blocks": lambda: shapes.blocks(2_000, 508),
-    "methods": lambda: shapes.tiny_methods(20_000),
+    "methods": lambda: shapes.methods(20_000, b""),
     "buffer": lambda: shapes.buffer(1 << 20),
 }
 WANTS = refused("NoMemory"), refused("NoThread")
@@ -81,7 +80,7 @@ class Checks(Tally):
             self.is_whole(f"{what}, a stack of {limit} KB", limited("-s", limit, *command), whole)
 
     def check_set(self, name, program, least, steps):
-        folder = written(self.room / name, {"dsdt.dat": shapes.table(SETS[name]())})
+        folder = written(self.room / name, tables(SETS[name]()))
         options = Options(any_run=True) if name == "blocks" else Options(any_sum=True)
         whole = run_folder(folder, options)
         outcome = ended(program, *options.words(), folder)
@@ -92,19 +91,15 @@ class Checks(Tally):
 
 
 def main():
-    words = parser(__doc__)
-    words.add_argument("--short", action="store_true")
-    words.add_argument("--stop", action="store_true")
-    words.add_argument("program", nargs="?", type=pathlib.Path, default=PROGRAM)
-    asked = words.parse_args()
-    program = asked.program.resolve()
-    with Checks(asked.stop) as checks:
+    words = asked(__doc__, short=False, stop=False, program=PROGRAM)
+    program = words.program
+    with Checks(words.stop) as checks:
         least = least_memory(program)
         if least is None:
             checks.is_so(f"{program} doesn't start, or ulimit -v does nothing here", False)
         print(f"the program starts with {least} KB")
         for name in sorted(SETS) if least else ():
-            checks.check_set(name, program, least, SHORT if asked.short else LONG)
+            checks.check_set(name, program, least, SHORT if words.short else LONG)
 
 
 if __name__ == "__main__":

@@ -1,11 +1,19 @@
-"""Pieces of AML, and whole tables, of which the tests beside this file make their sets."""
+"""Pieces of AML, and whole tables, of which the tests beside this file and the benches make their sets."""
+
+import random
+import re
+
+from trying import TOP
+from made_code import package_length
+from made_sets import sealed
+from reading import ROWS
+
+LETTERS, DIGITS = "ABCDEFGHIJKLMNOPQRSTUVWXYZ", "0123456789ABCDEFGHIJKLMNOPQRSTUVWXYZ_"
 
 
-def packed(opcode, content):
-    """An opcode with a package length of 2 to 4 bytes around its content (ACPI 6.5, 20.2.4)."""
-    width = next(width for width in (2, 3, 4) if len(content) + width < 16 << 8 * (width - 1))
-    size = len(content) + width
-    return opcode + bytes([(width - 1) << 6 | size & 15]) + (size >> 4).to_bytes(width - 1, "little") + content
+def packed(opcode, content, width=2):
+    """An opcode with a package length of so many bytes or more around its content (ACPI 6.5, 20.2.4)."""
+    return opcode + package_length(len(content), width) + content
 
 
 def scope(name, *terms):
@@ -24,23 +32,63 @@ def buffer(data):
     return packed(b"\x11", b"\x0A" + bytes([len(data)]) + data)
 
 
-def region(name, space, offset, length):
-    return b"\x5B\x80" + name + bytes([space]) + offset + length
-
-
-def field(region, flags, units):
-    return packed(b"\x5B\x81", region + bytes([flags]) + units)
-
-
 def table(signature, code, oem_table=b"EXAMPLE"):
     """A table with this AML and a right checksum (ACPI 6.5, 5.2.6)."""
-    data = bytearray(signature + (36 + len(code)).to_bytes(4, "little"))
-    data += b"\2\0TEST  " + oem_table.ljust(8) + b"\1\0\0\0TEST\1\0\0\0" + code
-    data[9] = -sum(data) % 256
-    return bytes(data)
+    return sealed(signature + b"\0\0\0\0\2\0TEST  " + oem_table.ljust(8) + b"\1\0\0\0TEST\1\0\0\0" + code)
 
 
 def tables(*codes):
     """The files of a DSDT with the first of these, and of SSDTs with the others."""
     names = ["dsdt.dat", *(f"ssdt{number}.dat" for number in range(1, len(codes)))]
     return {name: table(name[:4].upper().encode(), code) for name, code in zip(names, codes)}
+
+
+def segment(number):
+    """A name segment for each number below 1,316,978, ordered as the numbers are."""
+    digits = ""
+    for _ in range(3):
+        number, digit = divmod(number, len(DIGITS))
+        digits = DIGITS[digit] + digits
+    return (LETTERS[number] + digits).encode()
+
+
+def each(numbers, make=lambda name: name):
+    """What is made of the name of each of some numbers; of a count those below it, in order."""
+    return b"".join(make(segment(number)) for number in (range(numbers) if isinstance(numbers, int) else numbers))
+
+
+def mixed(count):
+    return random.Random(1).sample(range(count), count)
+
+
+def bytes_of(text):
+    """Two hexadecimal digits a byte, words of opcodes, texts in single quotes, and in brackets what has a package
+    length in front."""
+    opcodes = {row.mnemonic: f"{opcode:0{2 if opcode < 256 else 4}X}" for opcode, row in ROWS.items()}
+    opened = [b""]
+    for word, plain, bracket in re.findall(r"(\w+)|'([^']*)'|(\]|\[)", text):
+        if bracket == "[":
+            opened.append(b"")
+        elif bracket:
+            content = opened.pop()
+            opened[-1] = packed(opened[-1], content)
+        else:
+            opened[-1] += bytes.fromhex(opcodes.get(word, word)) or plain.encode()
+    return opened[0]
+
+
+# The AML of each table of the sets of tests/sets.txt
+SETS = {
+    name: list(map(bytes_of, re.findall(r"^[DS]SDT: ((?:.*\n)(?:  .*\n)*)", part, re.M)))
+    for name, part in re.findall(r"^== (.*)\n((?:(?!==).*\n)*)", (TOP / "tests/sets.txt").read_text(), re.M)
+}
+# A made-up board, for docs/facts.md and the tests of facts, in two versions of its firmware.
+FIRST, SECOND, DEBUG = SETS["board"]
+# The files of both by the names of their folders. The second has no SSDT, and another byte in a table without AML.
+VERSIONS = {
+    "first": {
+        "dsdt.dat": table(b"DSDT", FIRST, b"BOARD"), "ssdt1.dat": table(b"SSDT", DEBUG, b"DbgPort"),
+        "dmar.dat": table(b"DMAR", b"\x26\0", b"BOARD"),
+    },
+    "second": {"dsdt.dat": table(b"DSDT", SECOND, b"BOARD"), "dmar.dat": table(b"DMAR", b"\x26\1", b"BOARD")},
+}

@@ -364,11 +364,6 @@ def late_in(parts):
     return [it.names for _, some, _ in parts for number, it in enumerate(some) if earlier(it, some[:number])]
 
 
-def words_of_head(head):
-    cells = re.findall(r"^\| (`.*?`) \|", head.split("\n## ")[-1], re.MULTILINE)
-    return {word for cell in cells for word in re.findall(r"`([^` ]+)[^`]*`", cell.replace("\\|", "|"))}
-
-
 def unused_in(head, text):
     """The words of the head's list and of its first table that the page behind it doesn't have."""
     cells = re.findall(r"^\| (`.*?`) \|", head.split("\n## ")[-2], re.MULTILINE)
@@ -387,7 +382,9 @@ def main():
     lines = zip(text.split("\n"), there.split("\n"))
     other = next((f"{number}: {here}" for number, (here, old) in enumerate(lines, 1) if here != old), "behind its last line")
     lost = [word for _, names in [*PARTS, ADDED, PRINTED] for word in sources.named(names)[1]]
-    late, strange, checks = late_in(page.parts), sorted(words_of_head(head) ^ page.kit()), Tally()
+    cells = re.findall(r"^\| (`.*?`) \|", head.split("\n## ")[-1], re.MULTILINE)
+    words = {word for cell in cells for word in re.findall(r"`([^` ]+)[^`]*`", cell.replace("\\|", "|"))}
+    late, strange, checks = late_in(page.parts), sorted(words ^ page.kit()), Tally()
     checks.is_so(f"PARTS, ADDED, PRINTED: no specs have {lost}", not lost)
     checks.is_so(f"these stand behind what they are made of: {late}", not late)
     checks.is_so(f"tests/meaning_words.md and the definitions: {strange}", not strange)

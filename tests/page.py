@@ -10,20 +10,18 @@ the listing, and each declaration lists the lines that use it. Then come hostile
 no listing. The last line is 'N passed, N failed'.
 """
 
-import argparse
 import pathlib
 import random
 import re
 import subprocess
 from collections import Counter
 
-from tally import Tally, first_difference, parser, run_script, written  # before the others, whose places it tells
+from tally import Tally, asked, first_difference, run_script, written
 from acpidis_tools.page import lines as lines_module
-import pages
 from acpidis_tools.page import tree as tree_module
 from acpidis_tools.comparison import differences
 from acpidis_tools.errors import read_errors
-from made_aml import method, table
+from made_aml import SETS, method, table
 from acpidis_tools.page.markup import page
 from page_html import Read, read_page
 from running import REFUSED, Options, Outcome, run_folder
@@ -73,16 +71,18 @@ class Checks(Tally):
 
     def check_frame(self, what: str, read: Read, outcome: Outcome) -> None:
         """Anchors, links, elements and lines."""
-        links = {value[1:] for name, value in read.attributes if name == "href" and value.startswith("#")}
-        self.is_same(f"links without an anchor in {what}", links - set(read.anchors), set())
+        self.is_same(f"links without an anchor in {what}", read.links - set(read.anchors), set())
         self.is_same(f"anchors twice in {what}", [one for one, count in Counter(read.anchors).items() if count > 1], [])
         rows = outcome.out.partition("\nNamespace ")[2].partition("\nDef")[0]
-        paths = set(re.findall(r"^  (\\\S*) [A-Z]", rows, re.MULTILINE))
-        marks = {path: marks_of(row) for path, row in re.findall(r"^  (\\\S*) (.*)", rows, re.MULTILINE)}
+        # The class and the small words of a row of the tree, by the row of the listing
+        marks = {
+            path: (maybe.strip().lower() or None, ", ".join(["maybe"] * bool(maybe) + [f"{times} times"] * bool(times)))
+            for path, maybe, times in re.findall(r"^  (\\\S*) [A-Z].*?( Maybe)?(?: Times (\d+))?$", rows, re.MULTILINE)
+        }
         shown_marks = {path: tuple(row) for path, row in read.rows.items() if path in marks}
         self.is_same(f"marks of rows of {what}", shown_marks, marks)
         declared = {found["id"] for tag, found, *_ in read.names if tag == "dfn" and "id" in found}
-        self.is_same(f"declared paths without an anchor in {what}", paths - declared, set())
+        self.is_same(f"declared paths without an anchor in {what}", marks.keys() - declared, set())
         self.is_same(f"elements of {what}", read.elements - ELEMENTS, set())
         odd = [name for name, value in read.attributes if name.startswith("on") or name == "src"]
         odd += [value for name, value in read.attributes if name == "href" and value[0] != "#"]
@@ -95,13 +95,6 @@ class Checks(Tally):
         faults = [line.rpartition(": ")[2] for line in outcome.err.splitlines()]
         shown = [note[5:].partition(",")[0] for note in read.notes if note.startswith("raw: ")]
         self.is_same(f"faults of {what}", shown, faults)
-
-
-def marks_of(row: str) -> tuple[str | None, str]:
-    """The class and the small words of a row of the tree, by the row of the listing."""
-    is_maybe, times = re.search(r"( Maybe)?(?: Times (\d+))?$", row).groups()
-    words = (["maybe"] if is_maybe else []) + ([f"{times} times"] if times else [])
-    return "maybe" if is_maybe else None, ", ".join(words)
 
 
 def check_hostile(checks: Checks, read: Read) -> None:
@@ -138,7 +131,7 @@ def check_runs(checks: Checks, read: Read) -> None:
 
 def check_comparison(checks: Checks) -> None:
     """A set beside one whose DSDT adds a name, lacks a method and changes a name, and beside itself."""
-    code = pages.DSDT.replace(b"BAR_\x0A\x05", b"BAR_\x0A\x06")
+    code = SETS["mine"][0].replace(b"BAR_\x0A\x05", b"BAR_\x0A\x06")
     code = code.replace(b"\x14\x0BCALL\x00\xA4ZZZZ", b"\x08NEW_\x0D<b>\x00")
     other = {**PAGES_FILES, "dsdt.dat": table(b"DSDT", code)}
     sets = {"one": PAGES_FILES, "two": other}
@@ -199,8 +192,7 @@ def check_only(checks: Checks, outcome: Outcome) -> None:
         read = read_page(run.stdout)
         if what[0] == "\\":
             checks.is_same(f"the lines of {what}", set(read.lines), wanted)
-        links = {value[1:] for name, value in read.attributes if name == "href" and value.startswith("#")}
-        checks.is_same(f"links without an anchor at {what}", links - set(read.anchors), set())
+        checks.is_same(f"links without an anchor at {what}", read.links - set(read.anchors), set())
         checks.is_same(f"lines of {what}", [text for line, text in read.lines.items() if text != lines[line - 1]], [])
     run = checks.run("--only", "\\NONE", listing)
     checks.is_same("only what isn't there", (run.returncode, run.stdout, run.stderr.count("\n")), (1, "", 1))
@@ -222,14 +214,10 @@ def check_refusals(checks: Checks, outcome: Outcome) -> None:
     """Texts that are no listing: one line, and status 1."""
     lines = outcome.out.splitlines(keepends=True)
     texts = {
-        "an empty text": "",
-        "another tool's": 'DefinitionBlock ("", "DSDT", 2, "A", "B", 1)\n{\n}\n',
-        "a check": 'Check "a" Bytes 1\n',
-        "a text": "a listing\n",
-        "no ASCII": outcome.out.replace("Return", "R\xE9turn"),
+        "an empty text": "", "another tool's": 'DefinitionBlock ("", "DSDT", 2, "A", "B", 1)\n{\n}\n',
+        "a check": 'Check "a" Bytes 1\n', "a text": "a listing\n", "a line that is cut": outcome.out[:-3],
+        "no ASCII": outcome.out.replace("Return", "R\xE9turn"), "21 MB": outcome.out + "  \n" * 7_000_000,
         "a line less": outcome.out.replace("    Device (PCI0) {\n", ""),
-        "a line that is cut": outcome.out[:-3],
-        "21 MB": outcome.out + "  \n" * 7_000_000,
         **{f"the first {count} lines": "".join(lines[:count]) for count in range(1, len(lines), 7)},
     }
     for what, text in texts.items():
@@ -242,8 +230,8 @@ def check_refusals(checks: Checks, outcome: Outcome) -> None:
         checks.is_same("status of other faults", (run.returncode, run.stderr.count("\n")), (1, 1))
 
 
-def check_all(checks: Checks, asked: argparse.Namespace) -> None:
-    for what, *sample in samples(checks.room, asked.folders, asked.sets):
+def check_all(checks: Checks, folders: list, sets: int) -> None:
+    for what, *sample in samples(checks.room, folders, sets):
         read = checks.check_set(what, *sample)
         for name, check in (("the hostile set", check_hostile), ("the set of runs", check_runs)):
             if what == name:
@@ -258,11 +246,9 @@ def check_all(checks: Checks, asked: argparse.Namespace) -> None:
 
 
 def main() -> None:
-    words = parser(__doc__, folders=True)
-    words.add_argument("--sets", type=int, default=40)
-    asked = words.parse_args()
+    words = asked(__doc__, sets=40, folders=())
     with Checks() as checks:
-        check_all(checks, asked)
+        check_all(checks, words.folders, words.sets)
 
 
 if __name__ == "__main__":

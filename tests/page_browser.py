@@ -22,7 +22,7 @@ import sys
 import tempfile
 import time
 
-from tally import TOP, Tally, parser, run_script, written  # before the others, whose places it tells
+from tally import TOP, Tally, asked, run_script, written
 from running import Options, run_folder
 from telling import HOSTILE_FILES
 
@@ -405,11 +405,12 @@ def page_of(room: pathlib.Path, name: str, text: str, *words: object) -> pathlib
     return page
 
 
-def look_at_all(browser: Browser, asked: argparse.Namespace, room: pathlib.Path, checks: Tally) -> None:
-    picture = asked.picture or room / "page.png"
-    if asked.listing:
-        page = page_of(room, "text", asked.listing.read_text(), *(["--errors", asked.errors] if asked.errors else []))
+def look_at_all(browser: Browser, words: argparse.Namespace, room: pathlib.Path, checks: Tally) -> None:
+    picture = words.picture or room / "page.png"
+    for listing in words.listings:
+        page = page_of(room, "text", listing.read_text(), *(["--errors", words.errors] if words.errors else []))
         look(browser, page.as_uri(), picture, checks)
+    if words.listings:
         return
     outcome = run_folder(written(room / "set", HOSTILE_FILES), Options())
     (room / "errors").write_text(outcome.err)
@@ -425,11 +426,7 @@ def look_at_all(browser: Browser, asked: argparse.Namespace, room: pathlib.Path,
 
 
 def main() -> None:
-    words = parser(__doc__)
-    words.add_argument("--picture", type=pathlib.Path)
-    words.add_argument("--errors", type=pathlib.Path)
-    words.add_argument("listing", metavar="LISTING", nargs="?", type=pathlib.Path)
-    asked, checks = words.parse_args(), Tally()
+    words, checks = asked(__doc__, picture=pathlib.Path, errors=str, listings=()), Tally()
     if not shutil.which("chromium"):
         print("chromium is not there, so nothing is tried: on Debian, apt-get install chromium\n0 passed, 0 failed")
         return
@@ -437,7 +434,7 @@ def main() -> None:
         room = pathlib.Path(name)
         browser = Browser(str(room / "profile"))
         try:
-            look_at_all(browser, asked, room, checks)
+            look_at_all(browser, words, room, checks)
         finally:
             browser.close()
     checks.end()

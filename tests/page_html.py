@@ -5,7 +5,7 @@ from collections.abc import Iterator
 from html.parser import HTMLParser
 
 from loading import path_text
-from acpidis_tools.page.packing import BETWEEN, unpacked
+from acpidis_tools.page.sheet import BETWEEN, unpacked
 
 Path = tuple[str, ...]
 Told = tuple[str, str, object, tuple]
@@ -64,6 +64,7 @@ class Read:
         parts = list(page.all())
         self.elements = {it.tag for it in parts}
         self.attributes = [pair for it in parts for pair in it.found.items()]
+        self.links = {value[1:] for name, value in self.attributes if name == "href" and value.startswith("#")}
         self.anchors = [it.found["id"] for it in parts if "id" in it.found]
         self.lines, self.names, self.notes, self.says = {}, [], [], []
         (tree,) = (it for it in parts if it.tag == "nav")

@@ -6,12 +6,12 @@ there.
 
 A block that begins with ```console has commands behind `$ `, more lines of theirs behind `> `, and below what they
 print. They run in a folder with `mine`, the set of docs/listing.md, whose text is the first block of that page, with
-`boards`, the sets of tests/board.py, and with `examples`; `./acpidis` is the launcher. Then they run once more as the
-commands of an installed program, `acpidis-page` for `examples/page.py`. README and docs have no more pages and words
-than they may. What pages quote, link to or name stands there: sources, headings, contracts, clauses, wrong bodies.
-The manual page is looked through by mandoc and groff, each where it is installed; options and words are compared with
-the program's and the sources'. Last, the scripts that the pages speak of are tried, but with --no-scripts. The last
-line is 'N passed, N failed'.
+`boards`, the sets of tests/made_aml.py, and with `examples`; `./acpidis` is the launcher. Then they run once more as
+the commands of an installed program, `acpidis-page` for `examples/page.py`. README and docs have no more pages and
+words than they may. What pages quote, link to or name stands there: sources, headings, contracts, clauses, wrong
+bodies. The manual page is looked through by mandoc and groff, each where it is installed; options and words are
+compared with the program's and the sources'. Last, the scripts that the pages speak of are tried, but with
+--no-scripts. The last line is 'N passed, N failed'.
 """
 
 import itertools
@@ -23,9 +23,8 @@ import subprocess
 import sys
 import tempfile
 
-from tally import TOP, Tally, written  # before the others, whose places it tells
-from board import VERSIONS
-from made_aml import tables
+from tally import TOP, Tally, written
+from made_aml import SETS, VERSIONS, tables
 
 LISTING = "docs/listing.md"
 PAGES = ["listing", "tables", "refusals", "any_run", "changing", "many", "facts"]
@@ -38,10 +37,7 @@ MOST_PAGES, MOST_WORDS_OF_PAGES = 15, 24000
 # What pages call a thing that no source names
 MADE_UP = {"draw_copy1", "Lts"}
 SCRIPTS = ["tests/meaning.py", "tests/survey.sh", "tests/install.sh", "tests/examples.py", "tests/library.sh"]
-DSDT = b"\x08BAR_\x0A\x05" + b"\x14\x0BFOO_\x02\xA4\x72\x68\x69\x00" + b"\x14\x0BCALL\x00\xA4ZZZZ"
-SSDT = b"\x10\x17\\_SB_\x5B\x82\x0FDEV0\x14\x09_STA\x08\xA4\x0A\x0F" + b"\x06FOO_ALIA"
-SETS = {"mine": tables(DSDT, SSDT)}
-SETS |= {f"boards/{version}": files for version, files in VERSIONS.items()}
+FOLDERS = {"mine": tables(*SETS["mine"]), **{f"boards/{version}": files for version, files in VERSIONS.items()}}
 
 # In place of ssh: each host has the tables of `mine`, but for one that doesn't answer.
 SSH = """#!/bin/sh
@@ -55,7 +51,7 @@ exec tar -C mine -cf - .
 
 
 def make_room(room, is_installed):
-    for place, files in SETS.items():
+    for place, files in FOLDERS.items():
         written(room / place, files)
     (room / "bin").mkdir()
     commands = {"bin/ssh": SSH}

@@ -1,21 +1,20 @@
 #!/usr/bin/env python3
 """Compares the public functions of the crates with the table of those whose whole answers ./test compares.
 
-    python3 tests/public_calls.py [--list]
+    python3 tests/public_calls.py
 
 A contract says nothing of a body that always wants memory, or never returns, so each public function has to be called once
 with ample memory, and what it answers compared. tests/public_calls.txt says by which part of ./test. It fails where a public
 function stands in no part, where one is named that there isn't, and where the program or the tests of a part don't call one
 that is named there, by themselves or through other functions. What operators, `?` and formatting call by themselves has no
 name by which a call could be found, and functions that take and answer nothing, which are laws, have no answer: they aren't
-looked at.
-With --list the public functions are printed, each with the parts that call it. The last line is 'N passed, N failed'.
+looked at. The last line is 'N passed, N failed'.
 """
 
 import collections
 import re
 
-from tally import TOP, Tally, module_of, parser  # before the others, whose places it tells
+from tally import TOP, Tally, module_of
 from wrong_bodies import BLOCK, FUNCTION, functions_of, sources_in
 
 TABLE = TOP / "tests/public_calls.txt"
@@ -115,16 +114,10 @@ def table():
 
 
 def main():
-    words = parser(__doc__)
-    words.add_argument("--list", action="store_true")
     below = crates_below()
     functions = [it for crate in below for it in functions_in(crate)]
     public = sorted({title(it) for it in surface(functions)})
     called = {part: called_from(functions, crate, below) for part, crate in PARTS.items()}
-    if words.parse_args().list:
-        for name in public:
-            print(name, *(part for part in PARTS if name in called[part]))
-        return
     told, checks = table(), Tally()
     for name in public:
         is_told = any(name in names for names in told.values())

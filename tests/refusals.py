@@ -18,22 +18,15 @@ import re
 import sys
 import tempfile
 
-# Before the others, whose places it tells
-from tally import PROGRAM, TOP, Tally, parser, shim_in, written
+from tally import PROGRAM, TOP, Tally, shim_in, written
 from limits import WANTS, ended
-from made_aml import method, packed, tables
+from made_aml import SETS, tables
 from running import DONE, RAW
 
 CRATE = TOP / "crates/library_tests"
 TESTS = CRATE / "out/library_tests_tests"
 GROWTH, FROM, START = "REFUSE_GROWTH", "REFUSE_FROM", "REFUSE_START"
-NO_BODY = method(b"AAAA", 0, b"\xA4BBBB\1\x0A\5")
-# Two branches that declare one method
-BRANCHES = packed(b"\xA0", b"CCCC" + method(b"FOO_", 1)) + packed(b"\xA1", method(b"FOO_", 1, b"\xA4h"))
-SETS = {
-    "set": {**tables(NO_BODY, method(b"FOO_", 1, b"\xA4h")), "tables.map": b""},
-    "branches": tables(b"\x08CCCC\0" + BRANCHES + method(b"BAR_", 0, b"FOO_\1") + NO_BODY),
-}
+FOLDERS = {"set": {**tables(*SETS["refused"]), "tables.map": b""}, "branches": tables(*SETS["branches"])}
 RUNS = ("--workers 1 set", "--workers 3 set", "--check set", "--externals counts set", "--any-run branches")
 
 
@@ -81,9 +74,9 @@ def built(*words, **more):
 
 
 def main():
-    words = parser(__doc__)
-    words.add_argument("part", nargs="?", choices=["program"])
-    part = words.parse_args().part
+    part = sys.argv[1:] == ["program"]
+    if sys.argv[1:] and not part:
+        sys.exit(__doc__)
     with Tally(stops=True) as checks, concurrent.futures.ThreadPoolExecutor(len(os.sched_getaffinity(0))) as pool:
         shim = shim_in(checks.room)
         if not shim:
@@ -91,7 +84,7 @@ def main():
         if not part:
             built("rt", "test", "--", "memory", cwd=CRATE)
         built(TOP / "acpidis", "demo")
-        for folder, files in SETS.items():
+        for folder, files in FOLDERS.items():
             written(checks.room / folder, files)
         (checks.room / "counts").write_text("\\CCCC 2\n")
         for passed, said, is_whole in pool.map(lambda it: sweep(checks.room, shim, *it), sweeps(part)):

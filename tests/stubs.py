@@ -12,6 +12,7 @@ line is 'N passed, N failed'.
 """
 
 import concurrent.futures
+import itertools
 import os
 import pathlib
 import re
@@ -19,7 +20,7 @@ import shutil
 import subprocess
 import sys
 import tempfile
-from typing import NamedTuple
+from collections import namedtuple
 
 from tally import TOP, Tally
 
@@ -41,110 +42,55 @@ POOL_STUBS = {
     "prints nothing": "#!/bin/sh\n",
     "is always whole": "#!/bin/sh\necho whole\n",
 }
-# A reading by which a declaration that only may stand hides those in the scopes around it
-RUNS = "tests/oracle/any_run.py"
-SURE, ALONE = (f"            if {it}:\n                return met\n" for it in ("self.is_sure(path)", "met"))
-READINGS = {"a maybe that decides alone": (SURE, ALONE), "an open Alias that counts": ("if is_open:", "if False:")}
-# The rules by which a run passes over terms and aims Aliases, each with a reading that takes no heed of it
-RULES = {
-    "a parent that isn't there": ("path is not None and self.is_sure(path[:-1])", "True"),
-    "a Scope of no scope": ("self.is_sure(path) and self.is_scope(path)", "self.is_sure(path)"),
-    "an Alias that may have another target": ('"Alias", target, is_open', '"Alias", target, False'),
-    "an Alias whose source isn't there": (", self.space.is_sure(source))", ")"),
-}
-# What is told of pages without a word
-EMPTY_PAGES = {
-    "docs/listing.md": "it has no command",
-    "docs/refusals.md": "it has no command",
-    "docs/work/proofs.md": "it names no crate",
-    "docs/acpidis.1": "FAILED words of the manual",
-}
 COMPILERS = {"cc", "gcc", "clang", "c89", "c99"}
-# Tests, what each is given, the file that has it, and its text
-EMPTIED = (
-    ("tests/package.sh", "a ./package that makes nothing", "package", "#!/bin/sh\n"),
-    ("tests/facts.py", "a script that writes nothing", "examples/facts.py", ""),
-    ("tests/decoding.py", "nothing decoded", "examples/acpidis_tools/decoding.py", ""),
-    ("tests/hostile.py", "a script that prints nothing", "examples/page.py", ""),
-    ("tests/meaning.py", "an empty page", "docs/meaning.md", ""),
-    ("tests/public_calls.py", "an empty table", "tests/public_calls.txt", ""),
-    ("tests/library.sh", "an empty page", "docs/library.md", ""),
+# The scripts that take the program; others, each with a file in which something is wrong; what is told of empty pages
+OF_PROGRAM, WRONG, EMPTY_PAGES = (
+    [line for line in part.splitlines() if not line.startswith("#")]
+    for part in (TOP / "tests/stubs.txt").read_text().split("\n\n")
 )
 
 
-class Trial(NamedTuple):
-    """A script with its words, what is put into the copy in which it runs, the PATH there, and what it has to say."""
-
-    name: str
-    words: list
-    files: dict = {}
-    path: str | None = None
-    said: tuple = ()
-
-
-# The scripts that take the built program, with words by which they end early
-OF_PROGRAM = (
-    "tests/folder.sh",
-    "tests/launcher.sh real",
-    "tests/pages.py --no-scripts",
-    "tests/survey.sh --stop",
-    "tests/install.sh",
-    "tests/examples.py --stop",
-    "tests/asl.py --sets 0 --stop",
-    "tests/refusals.py program",
-    "tests/limits.py --short --stop",
-    "tests/worked_runs.py",
-    "tests/large_sets.py --stop",
-    "tests/oracle/compare.py --sets 20",
-    "tests/oracle/compare.py --sets 2 --mutated",
-    "tests/oracle/terms_agree.py",
-)
+# A script with its words, what is put into the copy in which it runs, the PATH there, and what it has to say
+Trial = namedtuple("Trial", "name words files path said", defaults=[{}, None, []])
 
 
 def trials(room):
     """All trials. Folders of commands are made in the room."""
-    for script in OF_PROGRAM:
-        for what, text in STUBS.items():
-            yield Trial(f"{script}, a program that {what}", script.split(), placed(text))
+    for script, (what, text) in itertools.product(OF_PROGRAM, STUBS.items()):
+        yield Trial(f"{script}, a program that {what}", script.split(), placed(text))
     for what, text in POOL_STUBS.items():
         yield Trial(f"tests/pool_refusals.sh, a program that {what}", ["tests/pool_refusals.sh", "starts"], {POOL: text})
     for what, text in STUBS.items():
         page = {"examples/page.py": f"import os\nos.execv('{room}/{what}', ['page'])\n"}
-        (room / what).write_text(text)
-        (room / what).chmod(0o755)
+        write(room / what, text)
         yield Trial(f"tests/page.py, a script that {what}", ["tests/page.py", "--sets", "1"], page)
     for what in ("refuses", "prints nothing"):
         yield Trial(f"tests/costs.py, a program that {what}", ["tests/costs.py"], placed(STUBS[what]))
-    for script, what, file, text in EMPTIED:
-        yield Trial(f"{script}, {what}", [script], {file: text})
+    for script, what, file, old, new in (map(str.strip, line.split("|")) for line in WRONG):
+        old, new = (it.replace("\\n", "\n") for it in (old, new))
+        text = (TOP / file).read_text().replace(old, new) if old else new
+        yield Trial(f"{script}, {what}", script.split(), {file: text})
     words = ["tests/refusals.py", "program"]
     yield Trial("tests/refusals.py, no C compiler", words, placed(REFUSES), without_compilers(room))
     yield Trial("tests/worked_runs.py, no examples", ["tests/worked_runs.py"], {"tests/worked_runs.txt": "", **placed(EMPTY)})
-    runs = (TOP / RUNS).read_text()
-    for what, (rule, other) in READINGS.items():
-        wrong = {RUNS: runs.replace(rule, other)}
-        yield Trial(f"tests/oracle/runs_agree.py, {what}", ["tests/oracle/runs_agree.py"], wrong)
-    for what, (rule, without) in RULES.items():
-        words, wrong = ["tests/oracle/terms_agree.py", "--read"], {RUNS: runs.replace(rule, without)}
-        yield Trial(f"tests/oracle/terms_agree.py, a reading without heed of {what}", words, wrong)
-    pages = {**dict.fromkeys(EMPTY_PAGES, ""), **placed(ONE_TEXT)}
-    said = tuple(f"{page}: {told}" if told.startswith("it ") else told for page, told in EMPTY_PAGES.items())
+    pages = {line.partition(":")[0]: "" for line in EMPTY_PAGES} | placed(ONE_TEXT)
+    said = [line.partition(": ")[2] if "FAILED" in line else line for line in EMPTY_PAGES]
     yield Trial("tests/pages.py, empty pages", ["tests/pages.py", "--no-scripts"], pages, said=said)
     for what, text in (("proves nothing", "#!/bin/sh\n"), ("counts nothing", "#!/bin/sh\necho '0 passed, 0 failed'\n")):
-        yield Trial(f"./test, a command rt that {what}", ["./test"], {}, with_command(room / f"rt {what}", "rt", text))
+        write(room / f"rt {what}/rt", text)
+        yield Trial(f"./test, a command rt that {what}", ["./test"], {}, f"{room}/rt {what}:{os.environ['PATH']}")
+
+
+def write(file, text):
+    """A file that can be run."""
+    file.parent.mkdir(parents=True, exist_ok=True)
+    file.write_text(text)
+    file.chmod(0o755)
 
 
 def placed(text):
     """The program as the build and the launcher leave it."""
     return {PROGRAM: text, PLACED: text}
-
-
-def with_command(folder, name, text):
-    """A PATH with this command in front."""
-    folder.mkdir()
-    (folder / name).write_text(text)
-    (folder / name).chmod(0o755)
-    return f"{folder}:{os.environ['PATH']}"
 
 
 def without_compilers(room):
@@ -162,9 +108,7 @@ def copy_with(files, folder):
     """A copy of the repository with these files in it."""
     shutil.copytree(TOP, folder, ignore=LEFT_OUT, symlinks=True)
     for name, text in files.items():
-        (folder / name).parent.mkdir(parents=True, exist_ok=True)
-        (folder / name).write_text(text)
-        (folder / name).chmod(0o755)
+        write(folder / name, text)
     return folder
 
 

@@ -1,8 +1,8 @@
-"""What the tests beside this file share: where what they try lies, their words, and counts of what passes and what fails."""
+"""What the tests beside this file share: where what they try lies, and counts of what passes and what fails. It tells
+the others' places, so it comes before them."""
 
 from __future__ import annotations
 
-import argparse
 import importlib.machinery
 import importlib.util
 import itertools
@@ -16,10 +16,11 @@ import tempfile
 import types
 from collections.abc import Callable, Iterable
 
-sys.dont_write_bytecode = True
-TOP = pathlib.Path(__file__).resolve().parent.parent
-PROGRAM, DEMO = TOP / "out/acpidis", TOP / "crates/acpidis_program/data/demo"
-sys.path[1:1] = [str(TOP / "tests/oracle"), str(TOP / "tests"), str(TOP / "examples"), str(TOP / "bench")]
+PLACES = [pathlib.Path(__file__).resolve().parent.parent / it for it in ("tests/oracle", "tests", "examples", "bench")]
+sys.path[1:1] = map(str, PLACES)
+from trying import PROGRAM, TOP, asked, end, run  # noqa: E402, F401
+
+DEMO = TOP / "crates/acpidis_program/data/demo"
 
 
 class Stopped(Exception):
@@ -55,9 +56,7 @@ class Tally:
                 raise Stopped
 
     def end(self) -> None:
-        """Prints the last line, and ends the test."""
-        print(f"{self.passed} passed, {self.failed} failed")
-        sys.exit(self.failed > 0 or not self.passed)
+        end(self.passed, self.failed)
 
 
 def first_difference(got: Iterable, wanted: Iterable) -> str | None:
@@ -110,11 +109,3 @@ def shim_in(room: pathlib.Path) -> pathlib.Path | None:
     shim = room / "refusals.so"
     words = [compiler, "-O1", "-shared", "-fPIC", "-o", shim, TOP / "tests/refusals.c", "-ldl"]
     return shim if compiler and subprocess.run(words, check=True) else None
-
-
-def parser(about: str | None, folders: bool = False) -> argparse.ArgumentParser:
-    """The words of a test, whose help is what its first lines say; folders of dumps of one's own may be among them."""
-    words = argparse.ArgumentParser(description=about, formatter_class=argparse.RawDescriptionHelpFormatter)
-    if folders:
-        words.add_argument("folders", metavar="FOLDER", nargs="*", type=pathlib.Path)
-    return words

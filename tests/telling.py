@@ -5,13 +5,12 @@ import random
 import tempfile
 from collections.abc import Iterator
 
-from tally import DEMO, written  # before the others, whose places it tells
-import pages
+from tally import DEMO, written
 from any_run import RunNamespace, RunReader
 from dumps import aml_of, order_of
 from folders import read_folder
 from loading import Loaded, Namespace, path_text
-from made_aml import device, field, method, packed, region, scope, table, tables
+from made_aml import SETS, table, tables
 from made_sets import SetMaker
 from reading import ALIAS, ELSE, EXTERNAL, FIELD_LISTS, IF, METHOD, ROWS, SCOPE, SCOPES
 from reading import Name, Named, Op, Reader
@@ -31,50 +30,12 @@ Told = tuple[str, str, object, tuple]
 # ---- sample sets
 
 
-def field_list(name: bytes, units: bytes) -> bytes:
-    return region(name, 0, b"\0", b"\x0A\x10") + field(name, 1, units)
-
-
-HOSTILE_TEXT = b"<script>alert(1)</script>&amp;'\"\x01 -->"
-# Names of a body before and behind their declarations, in a block and in a field list, and one that is searched upward.
-CALL = (
-    b"\x70INIT\x60" + b"\\INIT\x01" + packed(b"\xA0", b"\x60" + b"\x08INIT\x01") + b"\x70INIT\x61"
-    + field_list(b"REGN", b"FLD0\x08\0\x04\2FLD0FLD1\x04") + b"\x70FLD0INIT" + b"\x8CINIT\0BYTE" + b"\x70BYTE\x62"
-    + b"\x86^^\0\x0A\x80" + b"\x70\x01QQQQ" + b"\x06INITLOCA" + b"\x08INIT\0" + b"\x70LOCAINIT" + b"\xA4_OSI\x0DLinux\0"
-)
-DEVICE = (
-    b"\x08_HID\x0DACPI0001\0" + field_list(b"REG0", b"UNIT\x08\0\x08NEXT\x04") + method(b"_STA", 0, b"\xA4UNIT")
-    + method(b"CALL", 8, CALL) + method(b"_CID", 0, b"\xA4\x0C\x41\xD0\x0A\x03")
-)
-BUS = b"\x08_HID\x0C\x41\xD0\x0A\x08" + b"\x08_CID" + packed(b"\x12", b"\1\x0C\x41\xD0\x0A\x03") + b"\x08INIT\0"
-DSDT = (
-    b"\x08NAME\x0D" + HOSTILE_TEXT + b"\0" + method(b"INIT", 1, b"\xA4\x68")
-    + scope(b"\\_SB_", device(b"PCI0", BUS, device(b"DEV0", DEVICE)))
-    + b"\x15\\EXTN\x08\x01" + b"\x15\\EXTN\x08\x01" + method(b"RAWM", 0, b"\xA4ZZZZ\x01") + b"\x06INITALIA"
-)
-ON = b"ALIAEXTN\x01" + b"CALL" + b"^_STA" + b"\x70\\/\4_SB_PCI0DEV0UNIT\x60" + b"\x70\x01^^^^NONE"
-SSDT = (
-    packed(b"\xA0", b"\0\x15\\/\3_SB_PCI0DEV0\x06\0") + scope(b"\\/\3_SB_PCI0DEV0", method(b"_ON_", 0, ON))
-    + scope(b"\\\0", b"\x08LATE", packed(b"\x12", b"\4INITLATE.PCI0INIT\\\0"))
-)
 HOSTILE_FILES = {
-    "<script>alert(1)<!--&\"'.dat": table(b"DSDT", DSDT),
-    "ssdt1 \" onload=alert(1) x='&lt;": table(b"SSDT", SSDT),
+    "<script>alert(1)<!--&\"'.dat": table(b"DSDT", SETS["hostile"][0]),
+    "ssdt1 \" onload=alert(1) x='&lt;": table(b"SSDT", SETS["hostile"][1]),
     "x\n<b>.dat": table(b"OEM1", b""),
 }
-PAGES_FILES = pages.SETS["mine"]
-
-# Two branches that declare a method, a nearer one that only may stand, a Device that is declared again, a Scope of what
-# nothing declares, and code that runs in front of a nearer declaration.
-BRANCHES = (
-    packed(b"\xA0", b"COND" + method(b"FOO_", 1, b"\xA4NONE")) + packed(b"\xA1", method(b"FOO_", 1, b"\xA3\xA4NO_2"))
-)
-NEARER = b"\x70COND\x60" + b"\x08COND\1" + packed(b"\xA0", b"COND" + method(b"FOO_", 1, b""))
-RUNS = (
-    b"\x08COND\0" + BRANCHES + device(b"DEV0", NEARER, method(b"CALL", 0, b"FOO_\1"))
-    + device(b"DEV0", b"\x08LATE\0") + scope(b"\\RP99", b"\x08NEAR\0")
-)
-RUNS_FILES = tables(RUNS)
+PAGES_FILES, RUNS_FILES = tables(*SETS["mine"]), tables(*SETS["runs"])
 
 
 def samples(room: pathlib.Path, folders: list, sets: int) -> Iterator[tuple[str, pathlib.Path, Options, Outcome]]:
@@ -87,8 +48,7 @@ def samples(room: pathlib.Path, folders: list, sets: int) -> Iterator[tuple[str,
         ("the set of runs", written(room / "runs", RUNS_FILES), Options(any_run=True)),
         *((str(it), it, Options(any_run=True, any_sum=True)) for it in folders),
     ]
-    for what, folder, options in named:
-        yield what, folder, options, run_folder(folder, options)
+    yield from ((*sample, run_folder(*sample[1:])) for sample in named)
     for any_run in (False, True):
         maker, number = SetMaker(random.Random(0), any_run=any_run), 0
         while number < sets:
@@ -269,8 +229,11 @@ class Teller:
             opcode, names = (term.opcode, term.names()) if isinstance(term, Op) else (None, [])
             self.then = self.then_by.get(id(term), {})
             if opcode == METHOD:
-                path = self.tell_declared(names[0], scope)
-                self.tell_body(self.bodies[self.table, term.tail[0]].terms or [], path)
+                path, own = self.tell_declared(names[0], scope), {}
+                self.body = path_text(path)
+                for inner in self.bodies[self.table, term.tail[0]].terms or []:
+                    self.tell_term(inner, path, own, "read")
+                self.body = None
             elif opcode == SCOPE:
                 path = self.led_by(term)
                 self.tell_led(names[0], path, scope)
@@ -292,13 +255,6 @@ class Teller:
             else:
                 self.tell_term(term, scope, {}, "read")
 
-    def tell_body(self, terms: list, path: Path) -> None:
-        own: dict[Path, int] = {}
-        self.body = path_text(path)
-        for term in terms:
-            self.tell_term(term, path, own, "read")
-        self.body = None
-
     def tell_term(self, term: object, scope: Path, own: dict, how: str | None) -> None:
         """The names of a term; the paths that it declares in a body are known behind it, with their places."""
         if isinstance(term, Name):
@@ -319,13 +275,12 @@ class Teller:
             own |= declared if self.body else {}
 
     def declare(self, name: Name, scope: Path, declared: dict) -> None:
-        if not self.body:
+        if self.body:
+            path = name.placed(scope)
+            declared |= {} if path is None else {path: len(self.told)}
+            self.tell(name, "declares in its body", path)
+        else:
             self.tell_declared(name, scope)
-            return
-        path = name.placed(scope)
-        if path is not None:
-            declared[path] = len(self.told)
-        self.tell(name, "declares in its body", path)
 
     def tell_parts(self, term: Op, scope: Path, own: dict, declared: dict) -> None:
         its_own = term.declared() if term.opcode not in FIELD_LISTS else []
@@ -340,12 +295,11 @@ class Teller:
         if term.opcode == NAME and not self.body:
             self.values.setdefault(term.names()[0].placed(scope), []).append(constant(term.parts[1]))
         if term.opcode in (REGION, DATA_REGION):
-            named = [it.name if isinstance(it, Named) and not it.args else None for it in term.parts[2:4]]
-            meant = [self.meant(it, scope, own) if it and term.opcode == REGION else [] for it in named]
+            space, *parts = term.parts[1:4] if term.opcode == REGION else ((0, None), None, None)
+            named = [it.name if isinstance(it, Named) and not it.args else None for it in parts]
+            meant = [self.meant(it, scope, own) if it else [] for it in named]
             path = path_text(term.names()[0].placed(scope) or ())
-            is_data = term.opcode == DATA_REGION
-            numbers = [None if is_data else small(constant(part)) for part in term.parts[2:4]]
-            self.regions.append(((self.body, path, None if is_data else term.parts[1][1]), numbers, meant))
+            self.regions.append(((self.body, path, space[1]), [small(constant(part)) for part in parts], meant))
 
     def tell_units(self, term: Op, scope: Path, own: dict, declared: dict) -> None:
         bit = 0

@@ -9,7 +9,7 @@ import pathlib
 import os
 import re
 
-from tally import TOP, Tally, module_of  # before the others, whose places it tells
+from tally import TOP, Tally, module_of
 
 TESTS = TOP / "tests"
 # What tests/verdicts.txt has: the function, the verdict, words of its reason, and what was printed; then files
@@ -42,33 +42,10 @@ for module, text in ("", sources["lib.rt"]), ("limits::", sources["limits.rt"]):
 print("only=1" if asked else "logic=proved")
 sys.exit(failed > 0)
 """
-# Wrong bodies that are tried at once: the changes of each. Then the verdicts with words of their reasons, and how many checks
-# are made.
+# Wrong bodies that are tried at once, and by how many checks
 TRIALS = [
-    # One that all clauses let through: the check ends with status 0.
-    ({"let_through": ("src/lib.rt", "right(1)", "other(1)")}, {"let_through": ("PROVED", "lets it through")}, 2),
-    # A constant that another module uses is judged by that module's functions.
-    (
-        {"one_level_more": ("src/limits.rt", "MOST_LEVELS: u32 = 512", "MOST_LEVELS: u32 = 513")},
-        {"one_level_more": ("refused", "returns of third")},
-        1,
-    ),
-    # One that can't be read has the others tried once more, together, and is told itself.
-    (
-        {
-            "wrong_first": ("src/lib.rt", "right(1)", "WRONG(1)"),
-            "no_text": ("src/lib.rt", "right(2)", "UNREADABLE(2)"),
-            "wrong_fourth": ("src/limits.rt", "right(4)", "WRONG(4)"),
-        },
-        {
-            "wrong_first": ("refused", "returns of first"),
-            "no_text": ("UNDECIDED", "no such word"),
-            "wrong_fourth": ("refused", "returns of limits/fourth"),
-        },
-        2,
-    ),
-    # By itself it is told so too.
-    ({"no_text": ("src/lib.rt", "right(2)", "UNREADABLE(2)")}, {"no_text": ("UNDECIDED", "no such word")}, 1),
+    (int(count), [line.split(" | ") for line in lines.splitlines()])
+    for count, lines in re.findall(r"^-- (\d+)\n((?:\w+ \| .*\n)+)", TEXT, re.M)
 ]
 
 
@@ -90,16 +67,16 @@ def check_trials(checks, tried, room):
         tried.write(f"{room}/{name}", text)
     os.chmod(f"{room}/prover", 0o755)
     kit = type("Kit", (), {"RATTLE": f"{room}/prover"})
-    for changes, wanted, count in TRIALS:
+    for count, bodies in TRIALS:
         tried.write(log, "")
         waiting = [
-            tried.WrongBody(name, [change], {tried.place_at(change[0], SOURCES[change[0]], SOURCES[change[0]].index(change[1]))})
-            for name, change in changes.items()
+            tried.WrongBody(name, [(file, old, new)], {tried.place_at(file, SOURCES[file], SOURCES[file].index(old))})
+            for name, file, old, new, *_ in bodies
         ]
-        found = dict(tried.judged(kit, Crate(), waiting, f"{room}/kept", None, is_seeded=False))
-        runs = tried.read(log).splitlines()
+        found = dict(tried.judged(kit, Crate(), waiting, f"{room}/kept", is_seeded=False))
+        runs, wanted = tried.read(log).splitlines(), {name: (kind, words) for name, *_, kind, words in bodies}
         told = {name: (it.kind, wanted[name][1] in it.reason and wanted[name][1]) for name, it in found.items()}
-        checks.is_same(f"{', '.join(changes)}: {found} by {runs}", (told, len(runs)), (wanted, count))
+        checks.is_same(f"{', '.join(wanted)}: {found} by {runs}", (told, len(runs)), (wanted, count))
 
 
 def main():

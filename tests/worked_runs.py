@@ -14,8 +14,8 @@ import itertools
 import pathlib
 import tempfile
 
-from tally import PROGRAM, TOP, Tally, first_difference, parser  # before the others, whose places it tells
-from cases import Rows, options_of
+from tally import PROGRAM, TOP, Tally, asked, first_difference
+from cases import Rows
 from compare import run_program
 from folders import MAP_NAME
 from loading import path_text
@@ -40,15 +40,14 @@ class ProgramRows(Rows):
         super().__init__()
         self.program = program
 
-    def row_run(self, words, _):
+    def run(self, options):
         with tempfile.TemporaryDirectory() as name:
             folder, counts = pathlib.Path(name, "tables"), pathlib.Path(name, "counts")
             folder.mkdir()
             write_set(folder, self.dumps)
             counts.write_text("".join(f"{path_text(path)} {count}\n" for path, count in self.given))
-            options = dataclasses.replace(options_of(words), externals=counts if self.given else None)
-            status, text, errors = run_program(self.program, folder, options)
-        return [f"status {status}", *text.splitlines(), *errors.splitlines()]
+            options = dataclasses.replace(options, externals=counts if self.given else None)
+            return run_program(self.program, folder, options)
 
 
 def examples(file):
@@ -63,14 +62,11 @@ def examples(file):
 
 
 def main():
-    words = parser(__doc__)
-    words.add_argument("program", nargs="?", default=PROGRAM)
-    words.add_argument("--read", action="store_true", help="try the independent reading alone")
-    asked, checks = words.parse_args(), Tally()
+    words, checks = asked(__doc__, read=False, program=PROGRAM), Tally()
     for file in RUNS:
         rows = examples(file)
         checks.is_so(f"{file} has no examples", any(wanted for *_, wanted in rows))
-        readers = {"tests/oracle": Rows()} | ({} if asked.read else {"acpidis": ProgramRows(asked.program)})
+        readers = {"tests/oracle": Rows()} | ({} if words.read else {"acpidis": ProgramRows(words.program)})
         for (number, row, wanted), (name, reader) in itertools.product(rows, readers.items()):
             got = reader.answer(row)
             if wanted or got:

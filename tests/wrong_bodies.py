@@ -1,11 +1,11 @@
 #!/usr/bin/env python3
 """Tries wrong bodies, several in one check: a goal of the function that each stands in must be refused.
 
-usage: tests/wrong_bodies.py [--outside|--all] [--over FOLDER] [--shown FOLDER] [CRATE[/NAME]..]
+usage: tests/wrong_bodies.py [--outside|--all] [--over FOLDER] [CRATE[/NAME]..]
 
-The wrong bodies are those of crates/CRATE/must-fail, with --outside those of crates/CRATE/wrong-bodies.edits, or both. The crates
-below are proved first, where that isn't done yet; with --over they are those that rt ci left in a copy of the repository. With
---shown what the prover printed is kept in a folder, a file for each check. The last line is 'N passed, N failed'.
+The wrong bodies are those of crates/CRATE/must-fail, with --outside those of crates/CRATE/wrong-bodies.edits, or both.
+The crates below are proved first, where that isn't done yet; with --over they are those that rt ci left in a copy of
+the repository. The last line is 'N passed, N failed'.
 
 There are three verdicts, each printed with its reason:
 
@@ -113,10 +113,8 @@ def functions_of(file, text):
 
 
 def place_at(file, text, at):
-    """What stands at an offset of a source: the body of a function, or one of the module's other items.
-
-    A table that one function alone names counts as a part of its body.
-    """
+    """What stands at an offset of a source: the body of a function, or one of the module's other items. A table that
+    one function alone names counts as a part of its body."""
     functions = list(functions_of(file, text))
     begun = next((it for it in TABLE.finditer(text) if it.start() <= at < it.end()), None)
     naming = [it for it in functions if begun and re.search(rf"\b{begun[1]}\b", text[it.begin : it.end])]
@@ -125,10 +123,8 @@ def place_at(file, text, at):
 
 
 def read_wrong_body(name, text, folder):
-    """A wrong body from the text of its edit: lines `file: PATH`, and then pairs of `old: TEXT` and `new: TEXT`.
-
-    It may change names in a file of answers too, where the wrong body gives a call of the right one another name.
-    """
+    """A wrong body from the text of its edit: lines `file: PATH`, and then pairs of `old: TEXT` and `new: TEXT`. It
+    may change names in a file of answers too, where the wrong body gives a call of the right one another name."""
     changes, places, file, old, sources = [], set(), None, None, {}
     for line in text.split("\n"):
         word, _, rest = line.partition(": ")
@@ -165,10 +161,8 @@ def sources_in(folder):
 
 
 def own_functions(sources):
-    """The functions that are no methods of a trait. Those of one source come from its end on.
-
-    A method stands below its type, wherever its impl stands.
-    """
+    """The functions that are no methods of a trait. Those of one source come from its end on. A method stands below
+    its type, wherever its impl stands."""
     types = {found[1]: module_of(file) for file, text in sources.items() for found in TYPE.finditer(text)}
     for file, text in sources.items():
         for it in reversed(list(functions_of(file, text))):
@@ -210,10 +204,8 @@ COPY = re.compile(r"_copy\d+$")
 
 
 def first_batch(waiting, lone):
-    """Wrong bodies of different functions and cycles, as many as there are; or one that stands in no function.
-
-    Further ones of a function that can have copies, those of `lone`, stand in copies of it.
-    """
+    """Wrong bodies of different functions and cycles, as many as there are; or one that stands in no function. Further
+    ones of a function that can have copies, those of `lone`, stand in copies of it."""
     batch, taken = [], collections.Counter()
     for it in waiting:
         keys = {place.cycle or place.name for place in it.places}
@@ -224,14 +216,6 @@ def first_batch(waiting, lone):
             batch.append(it._replace(places=places, copy=number))
             taken.update(keys)
     return batch or waiting[:1]
-
-
-def change(file, old, new):
-    """Replaces what stands once in a file."""
-    text = read(file)
-    if text.count(old) != 1:
-        sys.exit(f"{file}: beside the other wrong bodies this stands {text.count(old)} times, and not once: {old}")
-    write(file, text.replace(old, new))
 
 
 def add_copy(crate, lone, source, wrong, room):
@@ -262,7 +246,10 @@ def copy_with(crate, batch, room):
             shutil.copytree(f"{folder}/{part}", f"{room}/{part}")
     for it in [it for it in batch if not it.copy]:
         for file, old, new in it.changes:
-            change(f"{room}/{file}", old, new)
+            text = read(f"{room}/{file}")
+            if text.count(old) != 1:
+                sys.exit(f"{file}: beside the others this stands {text.count(old)} times, and not once: {old}")
+            write(f"{room}/{file}", text.replace(old, new))
     sources = sources_in(folder)
     lone = {name_of_copy(it.function.place.name, body.copy): it for it in lone_functions(sources) for body in batch}
     for it in [it for it in batch if it.copy]:
@@ -271,10 +258,8 @@ def copy_with(crate, batch, room):
 
 
 def leave_out_bodies(crate, room, batch):
-    """Makes the functions of a copy that have no wrong body never end, with a hole for the proof of each.
-
-    What they state is left, which is all that the others know of them.
-    """
+    """Makes the functions of a copy that have no wrong body never end, with a hole for the proof of each. What they
+    state is left, which is all that the others know of them."""
     sources = sources_in(room)
     for file, it, path in list(spare_functions(sources, batch)):
         text = sources[file]
@@ -298,7 +283,6 @@ UNREAD = re.compile(r"^(?:\./)?((?:src|specs)/\S+?):(\d+)(?::\d+)?: error.*", re
 
 def check(rtlib, crate, batch, kept, only_these):
     """Checks a copy of the crate with these wrong bodies, and returns what was printed, and of which of them that says nothing.
-
     `only_these` says that the other functions' bodies are left out. Where a text can't be read nothing is said of any of them,
     and where it stands in the functions of some, these come by themselves: the names of the unread, and of those left untried.
     """
@@ -362,10 +346,9 @@ UNPROVED = re.compile(r"`search` did not prove ((?:`[^`]+`(?:, )?)+)")
 
 def read_output(printed, proofs):
     """What a check printed, by the path below proofs/ of each function or cycle that isn't proved: goals, and other reasons.
-
     The goals are those that were tried and aren't shown, by the prover's own search or by an answer in `proofs`.
     """
-    goals, others, false = {}, {}, set()
+    goals, others, false = collections.defaultdict(list), collections.defaultdict(list), set()
     for line in printed.split("\n"):
         answer, ended, counterexample = REFUSED.match(line), re.match(r"fn \w+::(\S+): (.*)", line), FALSE.match(line)
         if answer:
@@ -374,9 +357,9 @@ def read_output(printed, proofs):
             # What else a file of answers declares is a step on the way.
             answers = re.findall(r"^pub (\S+)\s*:\s*goal\.", read(kept), re.M) if os.path.exists(kept) else []
             if file == "Answers" and name in answers and TRIED.search(said) and not STALE.search(said):
-                goals.setdefault(path, []).append(name)
+                goals[path].append(name)
             else:
-                others.setdefault(path, []).append(f"{file}: `{name}`: {said}")
+                others[path].append(f"{file}: `{name}`: {said}")
         elif counterexample:
             false.add(counterexample[1])
         elif ended:
@@ -386,16 +369,15 @@ def read_output(printed, proofs):
             path = file[1] if file else name.replace("::", "/")
             if unproved:
                 found = re.findall(r"`([^`]+)`", unproved[1])
-                goals.setdefault(path, []).extend(f"{it}{' (false at some values)' * (it in false)}" for it in found)
+                goals[path].extend(f"{it}{' (false at some values)' * (it in false)}" for it in found)
             elif said.removesuffix(MAY_WAIT) not in ("proved", "no holes") and not said.startswith("depends on a hole"):
-                others.setdefault(path, []).append(said)
+                others[path].append(said)
             false = set()
     return goals, others
 
 
 def verdict_of(wrong, goals, others, printed):
     """The verdict on a wrong body from the goals and other reasons that a check told, by the path of what was to be proved.
-
     There is none, with the lines that were printed of it, where all that is said of its function is that a callee isn't proved.
     """
     names = {place.name.rpartition("::")[2] for place in wrong.places if place.name}
@@ -435,7 +417,7 @@ def verdicts_on(batch, checked, proofs, left_out):
     return {name: it for name, it in found.items() if is_told(name, it)}
 
 
-def judged(rtlib, crate, waiting, kept, shown, is_seeded):
+def judged(rtlib, crate, waiting, kept, is_seeded):
     """Gives the verdicts on all wrong bodies of a crate, each with its name, as they come."""
     left_out, alone = not is_seeded, False
     lone = {it.function.place.name for it in lone_functions(sources_in(f"{TOP}/crates/{crate.name}"))}
@@ -445,22 +427,10 @@ def judged(rtlib, crate, waiting, kept, shown, is_seeded):
         # What is checked is only worth keeping where another check follows.
         is_last = len(batch) == len(waiting) and not os.path.exists(kept)
         checked = check(rtlib, crate, batch, None if is_last else kept, left_out)
-        if shown:
-            file = f"{shown}/{crate.name}.{len(waiting)}{'.left_out' if left_out else '.alone' if alone else ''}"
-            with open(file, "w", encoding="utf-8") as it:
-                print(*(body.name for body in batch), checked[0], sep="\n", file=it)
         found = verdicts_on(batch, checked, f"{TOP}/crates/{crate.name}/proofs", left_out)
         yield from found.items()
         waiting = [it for it in waiting if it.name not in found]
         left_out, alone = left_out and bool(found), not (left_out or found)
-
-
-def seed(crate, kept):
-    """Begins with what `rt check` kept of a crate, if there is anything: then each check proves little more than what changed."""
-    own = f"{crate.folder}/out/incremental"
-    if os.path.isdir(own):
-        shutil.copytree(own, kept)
-    return os.path.isdir(own)
 
 
 def main():
@@ -469,7 +439,6 @@ def main():
     which.add_argument("--outside", dest="kinds", action="store_const", const=[True], default=[False])
     which.add_argument("--all", dest="kinds", action="store_const", const=[False, True])
     parser.add_argument("--over", metavar="FOLDER", default=TOP)
-    parser.add_argument("--shown", metavar="FOLDER", type=os.path.abspath)
     parser.add_argument("names", nargs="*", metavar="CRATE[/NAME]")
     given = parser.parse_args()
     rtlib = kit()
@@ -486,8 +455,11 @@ def main():
     counts = collections.Counter()
 
     def judge(crate, bodies, kept):
-        is_seeded = given.over == TOP and seed(crate, kept)
-        for name, verdict in judged(rtlib, crate, bodies, kept, given.shown, is_seeded):
+        # It begins with what `rt check` kept, if anything: then each check proves little more than what changed.
+        is_seeded = given.over == TOP and os.path.isdir(f"{crate.folder}/out/incremental")
+        if is_seeded:
+            shutil.copytree(f"{crate.folder}/out/incremental", kept)
+        for name, verdict in judged(rtlib, crate, bodies, kept, is_seeded):
             said = verdict.reason.replace("\n", "\n    ")
             print(f"{crate.name}/{name}: {verdict.kind}: {said}", flush=True)
             counts[verdict.kind] += 1

@@ -14,8 +14,13 @@ from acpidis_tools import paths, standard
 MOST_LEVELS = 512
 # A level of terms is a few calls deep.
 sys.setrecursionlimit(20_000)
-SEGMENT = re.compile(rb"[A-Z_][A-Z0-9_]{3}")
+# A segment, or as much of one as stands there
+SEGMENT = re.compile(rb"(?:[A-Z_][A-Z0-9_]{0,3})?")
+# What is read behind the parts of a term, by the kind of its tail
+TAILS = {"t": "block", "e": "elements", "f": "units", "b": "body", "y": "rest"}
 STEPS_PER_BYTE = 4
+# What a package length stays below, by the number of its bytes
+LIMITS = (1 << 6, 1 << 12, 1 << 20, 1 << 28)
 KEPT_PLACES = 2
 TEXT_LENGTH, TEXT_LINES = 160, 8
 
@@ -45,12 +50,7 @@ class TooManySteps(Exception):
     """The scopes are so deep that the search for names would take too long."""
 
 
-class Name:
-    __slots__ = ("root", "ups", "segments")
-
-    def __init__(self, root, ups, segments):
-        self.root, self.ups, self.segments = root, ups, segments
-
+class Name(namedtuple("Name", "root ups segments")):
     def __str__(self):
         return "\\" * self.root + "^" * self.ups + ".".join(self.segments)
 
@@ -210,13 +210,9 @@ class Reader:
 
     def segment(self, at, end):
         form = SEGMENT.match(self.code, at, min(end, self.stop))
-        if form:
-            return form[0].decode()
-        raise Stopped(next(place for place in range(at, at + 4) if not self.is_in_segment(place, at, end)))
-
-    def is_in_segment(self, at, first, end):
-        byte = self.byte(at, end)
-        return 0x41 <= byte <= 0x5A or byte == 0x5F or at > first and 0x30 <= byte <= 0x39
+        if len(form[0]) < 4:
+            raise Stopped(form.end())
+        return form[0].decode()
 
     def terms(self, at, end, level):
         kept = []
@@ -262,20 +258,12 @@ class Reader:
             if value < width or at + value > end:
                 raise Stopped(at)
             at, end, kinds = at + width, at + value, kinds[1:]
-        tail = kinds[-1] if kinds and kinds[-1] in "tyefb" else ""
         for part in kinds.rstrip("tyefb"):
             made, at = self.part(part, at, end, level)
             term.parts.append(made)
-        if tail == "t":
-            self.block(term, at, end, level)
-        elif tail == "e":
-            term.tail = self.elements(at, end, level)
-        elif tail == "f":
-            term.tail = self.units(at, end, level)
-        elif tail == "b":
-            term.tail = self.body(term, at, end, level)
-        elif tail:
-            term.tail = end - at
+        tail = kinds[-1:] if kinds[-1:] in TAILS else ""
+        if tail:
+            term.tail = getattr(self, TAILS[tail])(term, at, end, level)
         if kind == "R" and tail != "t":
             self.declare(term)
         self.open.pop()
@@ -294,18 +282,21 @@ class Reader:
         width = int(kind)
         return (width, int.from_bytes(self.span(at, width, end), "little")), at + width
 
-    def body(self, term, at, end, level):
-        """A method's body isn't read."""
+    def rest(self, _term, at, end, _level):
+        """How many bytes are left."""
         return end - at
 
-    def elements(self, at, end, level):
+    # A method's body isn't read.
+    body = rest
+
+    def elements(self, _term, at, end, level):
         elements = []
         while at < end:
             element, at = self.term(at, end, "D", level + 1)
             elements.append(element)
         return elements
 
-    def units(self, at, end, level):
+    def units(self, _term, at, end, level):
         """The names of a field list's units."""
         units = []
         while at < end:
@@ -337,8 +328,9 @@ class Reader:
             self.scope = found or place or outside
         elif term.word in OPENERS:
             self.scope = self.declared(term, term.names()[0]) or outside
-        term.tail = self.terms(at, end, level + 1)
+        inside = self.terms(at, end, level + 1)
         self.scope = outside
+        return inside
 
     def want(self, term):
         """What the first name of a Scope or an Alias leads to, and its place."""
@@ -391,23 +383,21 @@ def pieces(part):
     if isinstance(part, bytes):
         shown = part[:TEXT_LENGTH]
         yield '"' + "".join(chr(it) if 0x20 <= it <= 0x7E and it not in b'"\\' else f"\\x{it:02X}" for it in shown) + '"'
-    elif isinstance(part, tuple):
-        yield f"0x{part[1]:0{2 * part[0]}X}"
     elif isinstance(part, Name):
         yield str(part)
+    elif isinstance(part, tuple):
+        yield f"0x{part[1]:0{2 * part[0]}X}"
     elif part.word in CONSTANTS and part.parts:
         yield from pieces(part.parts[0])
     else:
         yield part.word
-        yield from grouped(" (", method_parts(part) if part.word == "Method" else part.parts, ")")
+        is_method = part.word == "Method"
+        shown = [*part.parts[:1], *(str(flags & 7) for _, flags in part.parts[1:])] if is_method else part.parts
+        yield from grouped(" (", shown, ")")
         if isinstance(part.tail, list) and part.word in ("Package", "VarPackage"):
             yield from grouped(" {", part.tail, "}")
         elif part.word == "Buffer" and part.tail is not None:
             yield f" {{{part.tail} bytes}}"
-
-
-def method_parts(term):
-    return [*term.parts[:1], *(str(flags & 7) for _, flags in term.parts[1:])]
 
 
 def grouped(left, parts, right):

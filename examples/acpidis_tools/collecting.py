@@ -5,17 +5,17 @@ from __future__ import annotations
 import hashlib
 import re
 from collections import defaultdict
+from collections.abc import Iterator
 
-from acpidis_tools.comparison import Said, text_of, texts_of
+from acpidis_tools.comparison import text_of, texts_of
 from acpidis_tools.decoding import Decoder, flag_words, hardware_name
 from acpidis_tools.errors import Fault
-from acpidis_tools.identifiers import eisa_number
 from acpidis_tools.listing import HEADER, Block, Dump, Line, Listing, Path, path_of, path_text
 from acpidis_tools.names import FIELD_LISTS, PREDEFINED, Meaning, Names, Sort, name_of
 from acpidis_tools.resources import Descriptor
 from acpidis_tools.schema import COLUMNS
-from acpidis_tools.standard import DEVICE_NAMES, space_name
-from acpidis_tools.terms import Place, Term, is_written, places
+from acpidis_tools.standard import DEVICE_NAMES, eisa_number, space_name
+from acpidis_tools.terms import OBJECT_OPERATORS, Place, Term, places
 
 # SQLite's integers have 64 bits, one of which is the sign.
 TOO_LARGE = 1 << 63
@@ -94,10 +94,6 @@ def number_of(value: str, base: int) -> int | None:
     return small(int(value, base)) if re.fullmatch(digits, value) else None
 
 
-def sum_of(said: Said) -> str:
-    return hashlib.sha256("\n".join(text_of(said)).encode()).hexdigest()[:16]
-
-
 class Collector:
     """Gathers the rows of one listing's code. Each row counts its number from 1, and has 1 for its code."""
 
@@ -118,16 +114,29 @@ class Collector:
 
     def collect(self) -> dict[str, list[list]]:
         self.add_names()
-        for block in self.listing.blocks:
-            self.file = block.file[1:-1]
-            self.add_regions(block)
-        for block in self.listing.blocks:
-            self.file = block.file[1:-1]
-            self.add_block(block)
+        # A field list may stand in front of its region.
+        for add in (self.add_region, self.add_line):
+            for line in self.lines():
+                add(line)
         for row, anchor in self.waiting:
             row[FIELD_REGION] = self.field_regions.get(anchor)
         self.add_constants()
         return self.rows
+
+    def lines(self) -> Iterator[Line]:
+        """The lines of all blocks, each while `file` and `method` are those that it stands in. The rows of methods are
+        added where they are met first."""
+        for block in self.listing.blocks:
+            self.file, end = block.file[1:-1], 0
+            for line in block.lines:
+                if line.number > end:
+                    self.method = None
+                if line.term == "Method" and not line.method:
+                    if line.number not in self.method_ids:
+                        self.method_ids[line.number] = self.add_method(block, line)
+                    self.method, end = self.method_ids[line.number], line.end
+                yield line
+            self.method = None
 
     def add(self, table: str, *values: object) -> int:
         rows = self.rows[table]
@@ -141,7 +150,8 @@ class Collector:
             line.number: block.file[1:-1] for block in self.listing.blocks for line in block.lines
             if line.declared is not None
         }
-        sums = {path: sum_of(said) for path, said in texts_of(self.names, self.listing).items()}
+        texts = {path: "\n".join(text_of(said)).encode() for path, said in texts_of(self.names, self.listing).items()}
+        sums = {path: hashlib.sha256(text).hexdigest()[:16] for path, text in texts.items()}
         targets = []
         for row in self.listing.rows:
             kind, _, more = row.kind.partition(" ")
@@ -154,13 +164,12 @@ class Collector:
             self.add_name(row.path, kind, count, None, stands, row.times, value, sums[row.path], files[line.number], line.number)
             if kind == "Alias":
                 targets.append((row.path, path_of(more)))
-        for path, kind in PREDEFINED.items():
+        others = [(path, *kind.partition(" ")[::2], "predefined") for path, kind in PREDEFINED.items()]
+        others += [(path, *kind, "external") for path, kind in self.externals().items()]
+        for path, kind, more, stands in others:
             if path not in self.ids:
-                word, _, count = kind.partition(" ")
-                self.add_name(path, word, int(count) if count else None, None, "predefined", 0, None, None, None, None)
-        for path, (kind, count) in self.externals().items():
-            if path not in self.ids:
-                self.add_name(path, kind, count, None, "external", 0, None, None, None, None)
+                count = int(more) if more != "" else None
+                self.add_name(path, kind, count, None, stands, 0, None, None, None, None)
         for path, target in targets:
             self.rows["name"][self.ids[path] - 1][5] = self.ids.get(target)
             if self.kinds.get(target) == "Method":
@@ -184,19 +193,6 @@ class Collector:
 
     # ---- regions, before what uses them
 
-    def add_regions(self, block: Block) -> None:
-        """The methods and the regions of a block. A field list may stand in front of its region."""
-        end = 0
-        for line in block.lines:
-            if line.number > end:
-                self.method = None
-            if line.term == "Method" and not line.method:
-                self.method, end = self.add_method(block, line), line.end
-                self.method_ids[line.number] = self.method
-            elif line.term in REGIONS:
-                self.add_region(line)
-        self.method = None
-
     def add_method(self, block: Block, line: Line) -> int:
         place = line.number - block.lines[0].number + 1
         body = block.lines[place]
@@ -211,6 +207,8 @@ class Collector:
         )
 
     def add_region(self, line: Line) -> None:
+        if line.term not in REGIONS:
+            return
         texts = argument_texts(line)
         arguments = self.decoder.terms(line)[0].arguments
         if line.term == "DataRegion":
@@ -260,24 +258,15 @@ class Collector:
         is_local = meaning is None or meaning.sort is Sort.LOCAL
         return meaning.anchor if meaning else "", None if is_local else self.ids.get(path), path_text(path)
 
-    # ---- the lines of a block
+    # ---- the lines
 
-    def add_block(self, block: Block) -> None:
-        end = 0
-        for line in block.lines[1:]:
-            if line.number > end:
-                self.method = None
-            if line.term == "Method" and not line.method:
-                self.method, end = self.method_ids[line.number], line.end
-                continue
-            if not line.term or line.term in ("Raw", "External"):
-                continue
+    def add_line(self, line: Line) -> None:
+        if line.term not in ("", "Raw", "External", "DefinitionBlock") and line.number not in self.method_ids:
             self.add_uses(line)
             self.add_field(line)
             self.add_resources(line)
             self.add_identifiers(line)
             self.add_statements(line)
-        self.method = None
 
     def add_uses(self, line: Line) -> None:
         if not any(meaning.sort in USING for meaning in self.names.meanings[line.number]):
@@ -314,30 +303,27 @@ class Collector:
             return "called" if is_method else "read"
         if place.kind == "A" and place.within and place.within.word != "Connection":
             return "called" if is_method else "passed"
-        if place.kind == "S":
-            return "written" if is_written(place) else "passed"
+        if place.kind == "S" and place.within:
+            # A target of its operator, or an object that is handed to it
+            is_object = place.within.word in OBJECT_OPERATORS or (place.within.word, place.number) == ("CondRefOf", 0)
+            return "passed" if is_object else "written"
         return "passed" if place.kind == "D" else "named"
 
     def add_field(self, line: Line) -> None:
         unit = self.decoder.units.get(line.number)
         if unit:
             _, lock, update = flag_words(self.decoder.terms(unit.head))
-            anchor, name, path = self.declared(line)
             region, behind = self.region_of(unit.head)
-            self.field_regions.setdefault(anchor, region)
-            self.add(
-                "field", name, self.method, path, region, unit.head.term, unit.bit, unit.width, unit.access, lock, update,
-                self.file, line.number,
-            )
-            if behind:
-                self.waiting.append((self.rows["field"][-1], behind))
+            self.field_regions.setdefault(self.declared(line)[0], region)
+            values = [region, unit.head.term, unit.bit, unit.width, unit.access, lock, update]
         elif line.term.startswith("Create") and line.declared is not None:
-            _, name, path = self.declared(line)
-            bit, width = self.decoder.bits_of(line)
-            self.add(
-                "field", name, self.method, path, None, line.term, small(bit), small(width), None, None, None,
-                self.file, line.number,
-            )
+            behind, values = "", [None, line.term, *map(small, self.decoder.bits_of(line)), None, None, None]
+        else:
+            return
+        _, name, path = self.declared(line)
+        self.add("field", name, self.method, path, *values, self.file, line.number)
+        if behind:
+            self.waiting.append((self.rows["field"][-1], behind))
 
     def region_of(self, head: Line) -> tuple[int | None, str]:
         """The region of a field list; of an IndexField the anchor of its data, whose region it has."""

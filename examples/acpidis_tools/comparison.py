@@ -85,8 +85,7 @@ def different_lines(here: Said, there: Text) -> list[int]:
     numbers = []
     for number, text in here[first:len(here) - last]:
         others[text] -= 1
-        if others[text] < 0:
-            numbers.append(number)
+        numbers += [number] if others[text] < 0 else []
     return numbers
 
 
@@ -101,20 +100,16 @@ def texts_of(names: Names, listing: Listing) -> dict[Path, Said]:
 
 
 def declaration_text(line: Line, path: Path, places: dict[int, str], by_number: dict[int, Line]) -> Said:
-    head = line.number, head_text(line, path)
+    # The path stands in place of the name, which may stand in another scope.
+    pieces = list(line.pieces)
+    pieces[2 * (line.declared % len(line.words)) + 1] = path_text(path)
+    head = line.number, "".join(pieces)
     if line.declared == FIRST_WORD:
         return [(line.number, places[line.number]), head]
     if line.end and line.term not in SCOPES:
         inside = (by_number[number] for number in range(line.number + 1, line.end + 1))
         return [head, *((inner.number, inner.text[2 * line.depth:]) for inner in inside)]
     return [head]
-
-
-def head_text(line: Line, path: Path) -> str:
-    """A declaration's line with the path in place of the name: it may stand in another scope."""
-    pieces = list(line.pieces)
-    pieces[2 * (line.declared % len(line.words)) + 1] = path_text(path)
-    return "".join(pieces)
 
 
 def unit_places(listing: Listing) -> dict[int, str]:

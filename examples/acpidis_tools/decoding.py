@@ -3,15 +3,14 @@
 from __future__ import annotations
 
 import re
-from collections import defaultdict
-from typing import NamedTuple
+from collections import defaultdict, namedtuple
 
 from acpidis_tools import objects
-from acpidis_tools.identifiers import EISA_NUMBER, eisa_id, uuid_text, uuid_with_name, with_name
 from acpidis_tools.listing import Line, Listing
 from acpidis_tools.names import FIELD_LISTS, FIRST_WORD, Meaning, Names, is_name
 from acpidis_tools.resources import Descriptor, descriptors
-from acpidis_tools.standard import ACCESS_TYPES, LOCK_RULES, PREDEFINED_NAMES, UPDATE_RULES, named, space_name, status_words
+from acpidis_tools.standard import ACCESS_TYPES, EISA_NUMBER, LOCK_RULES, PREDEFINED_NAMES, UPDATE_RULES, eisa_id, named
+from acpidis_tools.standard import space_name, status_words, uuid_text, uuid_with_name, with_name
 from acpidis_tools.terms import Term, places, terms_of
 
 HARDWARE_NAMES = ("_HID", "_CID")
@@ -29,22 +28,13 @@ FIELD_BITS = {
 }
 
 
-class Unit(NamedTuple):
-    """A unit of a field list: the line of the list, its first bit and its width, and how it is accessed."""
-
-    head: Line
-    bit: int
-    width: int
-    access: str
+# A unit of a field list: the line of the list, its first bit and its width, and how it is accessed
+Unit = namedtuple("Unit", "head bit width access")
 
 
-class Template(NamedTuple):
+class Template(namedtuple("Template", "place descriptors patches")):
     """A buffer of resources: the place of the word Buffer in its line, its descriptors, and for each the fields that lie in
     its bytes, by which a run may change it."""
-
-    place: int
-    descriptors: list[Descriptor]
-    patches: list[list[str]]
 
     def texts(self) -> list[str]:
         return [
@@ -93,11 +83,14 @@ class Decoder:
             self.kept = line.number, terms_of(line)
         return self.kept[1]
 
+    def argument(self, line: Line, place: int) -> Term | None:
+        """An argument of a line's first term."""
+        terms = self.terms(line)
+        return terms[0].argument(place) if terms else None
+
     def access_at(self, line: Line) -> str:
         """The access that the units behind an Access line have."""
-        if line.term not in ("Access", "ExtendedAccess"):
-            return ""
-        kind = self.terms(line)[0].argument(0)
+        kind = self.argument(line, 0) if line.term in ("Access", "ExtendedAccess") else None
         return named(ACCESS_TYPES, (kind.number or 0) & 0x0F) if kind else ""
 
     def meanings(self, line: Line) -> dict[int, Meaning]:
@@ -105,8 +98,7 @@ class Decoder:
         return dict(zip(places_of_names, self.names.meanings[line.number]))
 
     def add_patch(self, line: Line) -> None:
-        terms = self.terms(line)
-        source = terms[0].argument(0) if terms else None
+        source = self.argument(line, 0)
         meaning = self.meanings(line).get(source.place) if source else None
         first, bits = self.bits_of(line)
         if meaning and meaning.anchor and first is not None and bits is not None:
@@ -114,8 +106,7 @@ class Decoder:
 
     def bits_of(self, line: Line) -> tuple[int | None, int | None]:
         """The first bit and the width of what a Create term makes, each where it is constant."""
-        terms = self.terms(line)
-        index, count = (terms[0].argument(place) if terms else None for place in (1, 2))
+        index, count = self.argument(line, 1), self.argument(line, 2)
         bits, unit = FIELD_BITS.get(line.term, (None, 1))
         if line.term == "CreateField" and count:
             bits = count.number
@@ -141,8 +132,7 @@ class Decoder:
 
     def anchor_of(self, line: Line, buffer: Term) -> str:
         """The anchor of the name that is declared with a buffer as its value."""
-        terms = self.terms(line)
-        if line.term != "Name" or not terms or terms[0].argument(1) is not buffer:
+        if line.term != "Name" or self.argument(line, 1) is not buffer:
             return ""
         meaning = self.meanings(line).get(1)
         return meaning.anchor if meaning else ""
@@ -166,8 +156,7 @@ class Decoder:
         """What the value of a predefined object says, which a line declares or returns."""
         if line.term not in ("Name", "Return") or len(line.words) < 2:
             return []
-        terms = self.terms(line)
-        value = terms[0].argument(1 if line.term == "Name" else 0) if terms else None
+        value = self.argument(line, 1 if line.term == "Name" else 0)
         return objects.rows_of(self.object_name(line), value) if value else []
 
     def object_name(self, line: Line) -> str:
@@ -185,9 +174,7 @@ class Decoder:
         if hardware_name(line) is None:
             return []
         found = []
-        for term, place in places(self.terms(line)):
-            if place.kind not in "DT" or term.place < 0:
-                continue
+        for term in (term for term, place in places(self.terms(line)) if place.kind in "DT" and term.place >= 0):
             if term.word[0] == '"':
                 found.append((term.place, term.word[1:-1]))
             elif EISA_NUMBER.fullmatch(term.word) and eisa_id(term.word):
@@ -205,16 +192,17 @@ class Decoder:
         elif line.term in FIELD_LISTS:
             notes.append(", ".join(flag_words(self.terms(line))))
         elif line.term == "OperationRegion":
-            space = self.terms(line)[0].argument(1)
+            space = self.argument(line, 1)
             notes += [space_name(space.number)] if space and space.number is not None else []
         elif line.term in ("Name", "Method", "Device", "Return"):
             notes += self.name_notes(line, bool(notes))
         return notes
 
     def name_notes(self, line: Line, has_identifier: bool) -> list[str]:
-        name = declared_name(line)
+        # The last segment of the name that a line outside the bodies declares
+        name = line.words[line.declared][-4:] if line.declared is not None and not line.method else ""
         if name == "_STA" or line.term == "Return" and line.method and line.method[-1] == "_STA":
-            value = self.terms(line)[0].argument(1 if name else 0) if line.term != "Method" else None
+            value = self.argument(line, 1 if name else 0) if line.term != "Method" else None
             if value and value.number is not None:
                 return [status_words(value.number)]
             return [PREDEFINED_NAMES[name]] if name else []
@@ -230,11 +218,6 @@ def hardware_name(line: Line) -> str | None:
     else:
         name = line.words[1][-4:] if line.term == "Name" and len(line.words) > 1 else ""
     return name if name in HARDWARE_NAMES else None
-
-
-def declared_name(line: Line) -> str:
-    """The last segment of the name that a line outside the bodies declares."""
-    return line.words[line.declared][-4:] if line.declared is not None and not line.method else ""
 
 
 def flag_words(terms: list[Term]) -> tuple[str, str, str]:

@@ -4,6 +4,7 @@ definition blocks as words, each with its depth and the line that closes what it
 from __future__ import annotations
 
 import re
+from collections import namedtuple
 from dataclasses import dataclass, field
 
 SEGMENT = r"[A-Z_][A-Z0-9_]{3}"
@@ -103,16 +104,11 @@ class Row:
     @property
     def marks(self) -> str:
         """What a reader sees of both."""
-        times = f"{self.times:,} times" if self.times > 1 else ""
-        return ", ".join(filter(None, ("maybe" if self.is_maybe else "", times)))
+        return ", ".join(["maybe"] * self.is_maybe + [f"{self.times:,} times"] * (self.times > 1))
 
 
-@dataclass
-class Block:
-    """A definition block: its lines are those from its head to the line that closes it."""
-
-    file: str
-    lines: list[Line]
+# A definition block: its file, and the lines from its head to the one that closes it
+Block = namedtuple("Block", "file lines")
 
 
 @dataclass
@@ -193,10 +189,9 @@ class Reader:
         if bare == "}":
             depth -= 1
         pieces = WORD.split(bare)
-        is_empty = len(pieces) == 1 and bare != "}"
-        if len(text) - len(bare) != 2 * depth or is_empty or not all(map(BETWEEN.fullmatch, pieces[::2])):
-            raise self.refuse()
-        if bare.startswith("Raw") and not RAW.fullmatch(bare):
+        is_wrong = len(text) - len(bare) != 2 * depth or len(pieces) == 1 and bare != "}"
+        is_wrong = is_wrong or bare.startswith("Raw") and not RAW.fullmatch(bare)
+        if is_wrong or not all(map(BETWEEN.fullmatch, pieces[::2])):
             raise self.refuse()
         self.at += 1
         return Line(self.at, depth, pieces)

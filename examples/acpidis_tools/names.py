@@ -2,11 +2,10 @@
 
 from __future__ import annotations
 
-from collections import defaultdict
+from collections import defaultdict, namedtuple
 from collections.abc import Container
 from enum import Enum
 from functools import lru_cache
-from typing import NamedTuple, Optional
 
 from acpidis_tools import aml, standard
 from acpidis_tools.listing import ROOT, Line, Listing, NoListing, Path, path_text
@@ -31,25 +30,14 @@ class Sort(Enum):
     NOTHING = "leads nowhere"
 
 
-class Meaning(NamedTuple):
-    """What a name does, with the path, and the anchor at which that stands: the path itself, or a line's number for a
-    name that a body declares. `others` are what else it means in another run."""
-
-    sort: Sort
-    path: Optional[Path] = None
-    anchor: str = ""
-    others: tuple[Meaning, ...] = ()
-
-
+# What a name does, with the path, None where it leads nowhere, and the anchor at which that stands: the path itself, or
+# a line's number for a name that a body declares. `others` are what else it means in another run.
+Meaning = namedtuple("Meaning", "sort path anchor others", defaults=[None, "", ()])
 NOWHERE = Meaning(Sort.NOTHING)
 Uses = dict[Path, list[int]]
 
 
-class Name(NamedTuple):
-    is_rooted: bool
-    ups: int
-    segments: Path
-
+class Name(namedtuple("Name", "is_rooted ups segments")):
     def placed(self, scope: Path) -> Path | None:
         if self.is_rooted:
             return self.segments
@@ -73,14 +61,8 @@ def name_of(text: str) -> Name:
     return Name(text.startswith("\\"), ups, tuple(bare.split(".")) if bare else ROOT)
 
 
-class Open(NamedTuple):
-    """A block that is open: the line that ends it, where the terms inside it stand, and whether these are sure to."""
-
-    end: int
-    scope: Path
-    method: Optional[Path]
-    is_field_list: bool
-    is_sure: bool
+# A block that is open: the line that ends it, where the terms inside it stand, and whether these are sure to
+Open = namedtuple("Open", "end scope method is_field_list is_sure")
 
 
 class Names:

@@ -6,7 +6,7 @@ from __future__ import annotations
 import uuid
 from collections.abc import Iterator
 
-from acpidis_tools.identifiers import UUID_LENGTH, uuid_text, uuid_with_name
+from acpidis_tools.standard import UUID_LENGTH, uuid_text, uuid_with_name
 from acpidis_tools.terms import Term
 
 ALL_FUNCTIONS, PINS = 0xFFFF, "ABCD"

@@ -2,7 +2,7 @@
 
 from __future__ import annotations
 
-from collections.abc import Callable
+from functools import partial
 from typing import NamedTuple, Optional
 
 from acpidis_tools.standard import space_name
@@ -67,64 +67,59 @@ def set_bits(number: int) -> tuple[int, ...]:
     return tuple(bit for bit in range(number.bit_length()) if number >> bit & 1)
 
 
-def flags(*words: str) -> tuple[str, ...]:
-    return tuple(filter(None, words))
+def said(kind: str, *words: object, **more: object) -> Descriptor:
+    """A descriptor with those of the words that are there."""
+    return Descriptor(kind, words=tuple(filter(None, words)), **more)
 
 
 # ---- small descriptors (6.4.2)
 
 
 def irq(data: Bytes) -> Descriptor:
-    lines = set_bits(data.number(1, 2))
-    if len(data.data) == 3:
-        return Descriptor("IRQ", lines=lines, words=("edge",))
-    kept = data.number(3, 1)
-    return Descriptor("IRQ", lines=lines, words=interrupt_words(kept & 1, kept >> 3 & 1, kept >> 4 & 3))
+    words, lines = ("edge",), set_bits(data.number(1, 2))
+    if len(data.data) > 3:
+        words = interrupt_words(data.bits(3, 0), data.bits(3, 3), data.bits(3, 4, 2))
+    return said("IRQ", *words, lines=lines)
 
 
-def interrupt_words(is_edge: int, polarity: int, sharing: int) -> tuple[str, ...]:
-    return flags(
-        "edge" if is_edge else "level", ("", "low", "both", "polarity 3")[polarity],
-        "shared" if sharing & 1 else "", "wake" if sharing & 2 else "",
-    )
+def interrupt_words(is_edge: int, polarity: int, sharing: int) -> tuple:
+    level = ("", "low", "both", "polarity 3")[polarity]
+    return "edge" if is_edge else "level", level, sharing & 1 and "shared", sharing & 2 and "wake"
 
 
 def dma(data: Bytes) -> Descriptor:
     speed = ("compatibility", "type A", "type B", "type F")[data.bits(2, 5, 2)]
     width = ("8 bits", "8 and 16 bits", "16 bits", "size 3")[data.bits(2, 0, 2)]
-    words = flags(speed, width, "bus master" if data.bits(2, 2) else "")
-    return Descriptor("DMA", lines=set_bits(data.number(1, 1)), words=words)
+    return said("DMA", speed, width, data.bits(2, 2) and "bus master", lines=set_bits(data.number(1, 1)))
 
 
 def start_dependent(data: Bytes) -> Descriptor:
     if len(data.data) == 1:
         return Descriptor("StartDependentFnNoPri")
-    priority = data.number(1, 1)
-    return Descriptor("StartDependentFn", words=(f"priority {priority & 3}", f"robustness {priority >> 2 & 3}"))
+    return said("StartDependentFn", f"priority {data.bits(1, 0, 2)}", f"robustness {data.bits(1, 2, 2)}")
 
 
 def io(data: Bytes) -> Descriptor:
-    first, last = data.numbers(2, 2, 2)
-    align = data.number(6, 1)
-    words = flags(f"align 0x{align:X}" if align > 1 else "", "" if data.bits(1, 0) else "10 bits decoded")
-    return Descriptor("IO", first, last, data.number(7, 1), 4, words=words)
+    (first, last), align = data.numbers(2, 2, 2), data.number(6, 1)
+    words = align > 1 and f"align 0x{align:X}", not data.bits(1, 0) and "10 bits decoded"
+    return said("IO", *words, first=first, last=last, length=data.number(7, 1), digits=4)
 
 
 def fixed_dma(data: Bytes) -> Descriptor:
     width = data.number(5, 1)
-    words = (f"channel {data.number(3, 2)}", f"{8 << width} bits" if width < 6 else f"width {width}")
-    return Descriptor("FixedDMA", lines=(data.number(1, 2),), words=words)
+    words = f"channel {data.number(3, 2)}", f"{8 << width} bits" if width < 6 else f"width {width}"
+    return said("FixedDMA", *words, lines=(data.number(1, 2),))
 
 
 # ---- memory and registers (6.4.3.1 to 6.4.3.4, 6.4.3.7)
 
 
-def memory(kind: str, data: Bytes, width: int, shift: int) -> Descriptor:
+def memory(kind: str, width: int, shift: int, data: Bytes) -> Descriptor:
     """A window of memory, whose numbers have so many bytes, and count bytes or 256 of them."""
     first, last, align, length = (it << shift for it in data.numbers(4, width, 4))
     align = align >> shift or (0x10000 if shift else 0)
-    words = flags(f"align 0x{align:X}", read_only(data))
-    return Descriptor(kind, first, last, length, 8 - shift // 4, words=words)
+    words = align and f"align 0x{align:X}", read_only(data)
+    return said(kind, *words, first=first, last=last, length=length, digits=8 - shift // 4)
 
 
 def read_only(data: Bytes) -> str:
@@ -134,11 +129,9 @@ def read_only(data: Bytes) -> str:
 def register(data: Bytes) -> Descriptor:
     access = ("", "bytes", "words", "double words", "quad words")
     space, bits, shift, size = data.numbers(3, 1, 4)
-    words = flags(
-        space_name(space), f"{bits} bits", f"from bit {shift}" if shift else "",
-        f"by {access[size]}" if 0 < size < len(access) else "",
-    )
-    return Descriptor("Register", data.number(7, 8), digits=1, words=words)
+    by = 0 < size < len(access) and f"by {access[size]}"
+    words = space_name(space), f"{bits} bits", shift and f"from bit {shift}", by
+    return said("Register", *words, first=data.number(7, 8), digits=1)
 
 
 # ---- address spaces (6.4.3.5)
@@ -149,33 +142,28 @@ MEMORY_TYPES = ("", "reserved", "ACPI data", "NVS")
 IO_RANGES = ("no range", "non-ISA range", "ISA range", "")
 
 
-def address_space(size: str, width: int) -> Callable[[Bytes], Descriptor]:
-    """Reads an address space descriptor whose numbers have so many bytes."""
-
-    def read(data: Bytes) -> Descriptor:
-        at = 8 if size == "Extended" else 6
-        granularity, first, last, translation, length = data.numbers(at, width, 5)
-        kind, behind = data.number(3, 1), at + 5 * width + 1
-        name = SPACE_KINDS[kind] if kind < len(SPACE_KINDS) else "Space"
-        words = flags(
-            "" if kind < len(SPACE_KINDS) else f"of kind 0x{kind:02X}",
-            "consumer" if data.bits(4, 0) else "", "subtractive" if data.bits(4, 1) else "",
-            "" if data.bits(4, 2) else "first not fixed", "" if data.bits(4, 3) else "last not fixed",
-            *specific_words(kind, data.number(5, 1)), f"granularity 0x{granularity:X}" if granularity else "",
-            f"translation 0x{translation:X}" if translation else "",
-        )
-        source = data.text(behind) if size != "Extended" and behind < len(data.data) else ""
-        return Descriptor(f"{size}{name}", first, last, length, 2 * width, words=words, source=source)
-
-    return read
+def address_space(size: str, width: int, data: Bytes) -> Descriptor:
+    """An address space descriptor whose numbers have so many bytes."""
+    at = 8 if size == "Extended" else 6
+    granularity, first, last, translation, length = data.numbers(at, width, 5)
+    kind, behind = data.number(3, 1), at + 5 * width + 1
+    name = SPACE_KINDS[kind] if kind < len(SPACE_KINDS) else "Space"
+    words = (
+        name == "Space" and f"of kind 0x{kind:02X}", data.bits(4, 0) and "consumer", data.bits(4, 1) and "subtractive",
+        not data.bits(4, 2) and "first not fixed", not data.bits(4, 3) and "last not fixed",
+        *specific_words(kind, data.number(5, 1)), granularity and f"granularity 0x{granularity:X}",
+        translation and f"translation 0x{translation:X}",
+    )  # fmt: skip
+    source = data.text(behind) if size != "Extended" else ""
+    return said(size + name, *words, first=first, last=last, length=length, digits=2 * width, source=source)
 
 
-def specific_words(kind: int, kept: int) -> tuple[str, ...]:
+def specific_words(kind: int, kept: int) -> tuple:
     if kind == 0:
-        is_translated = "as I/O" if kept >> 5 & 1 else ""
-        return "" if kept & 1 else "read-only", CACHING[kept >> 1 & 3], MEMORY_TYPES[kept >> 3 & 3], is_translated
+        is_translated = kept >> 5 & 1 and "as I/O"
+        return not kept & 1 and "read-only", CACHING[kept >> 1 & 3], MEMORY_TYPES[kept >> 3 & 3], is_translated
     if kind == 1:
-        return IO_RANGES[kept & 3], "as memory" if kept >> 4 & 1 else "", "sparse" if kept >> 5 & 1 else ""
+        return IO_RANGES[kept & 3], kept >> 4 & 1 and "as memory", kept >> 5 & 1 and "sparse"
     return ()
 
 
@@ -187,46 +175,36 @@ RESTRICTIONS = ("", "input", "output", "preserved")
 
 def interrupt(data: Bytes) -> Descriptor:
     kept, count = data.number(3, 1), data.number(4, 1)
-    words = flags("" if kept & 1 else "producer", *interrupt_words(kept >> 1 & 1, kept >> 2 & 1, kept >> 3 & 3))
-    behind = 5 + 4 * count + 1
-    source = data.text(behind) if behind < len(data.data) else ""
-    return Descriptor("Interrupt", lines=data.numbers(5, 4, count), words=words, source=source)
-
-
-def pins(data: Bytes, at: int, end: int) -> tuple[int, ...]:
-    """The pins from one offset up to another, which are those of 2 bytes that stand there."""
-    first, behind = data.number(at, 2), data.number(end, 2)
-    return data.numbers(first, 2, max(0, behind - first) // 2)
+    words = not kept & 1 and "producer", *interrupt_words(kept >> 1 & 1, kept >> 2 & 1, kept >> 3 & 3)
+    return said("Interrupt", *words, lines=data.numbers(5, 4, count), source=data.text(5 + 4 * count + 1))
 
 
 def gpio(data: Bytes) -> Descriptor:
     is_io = data.number(4, 1) == 1
     kept, pull, strength, debounce = data.number(7, 2), data.number(9, 1), data.number(10, 2), data.number(12, 2)
+    words = interrupt_words(kept & 1, kept >> 1 & 3, kept >> 3 & 3)
     if is_io:
-        words = RESTRICTIONS[kept & 3], "shared" if kept >> 3 & 1 else ""
-    else:
-        words = interrupt_words(kept & 1, kept >> 1 & 3, kept >> 3 & 3)
-    words = (
-        *words, PULLS[pull] if pull < len(PULLS) else f"pull {pull}", f"drive {strength}" if strength else "",
-        f"debounce {debounce}" if debounce else "",
-    )
+        words = RESTRICTIONS[kept & 3], kept >> 3 & 1 and "shared"
+    more = strength and f"drive {strength}", debounce and f"debounce {debounce}"
+    words = *words, PULLS[pull] if pull < len(PULLS) else f"pull {pull}", *more
     return with_pins("GpioIo" if is_io else "GpioInt", data, words, (14, 17), 17)
 
 
-def with_pins(kind: str, data: Bytes, words: tuple[str, ...], places: tuple[int, int], source: int) -> Descriptor:
-    """A descriptor whose pins stand between two offsets, and its source at another one."""
+def with_pins(kind: str, data: Bytes, words: tuple, places: tuple[int, int], source: int) -> Descriptor:
+    """A descriptor whose pins, of 2 bytes each, stand between two offsets, and its source at another one."""
+    first, behind = (data.number(at, 2) for at in places)
     device = data.text(data.number(source, 2))
-    return Descriptor(kind, lines=pins(data, *places), words=flags(*words), source=device)
+    return said(kind, *words, lines=data.numbers(first, 2, max(0, behind - first) // 2), source=device)
 
 
 def shared(data: Bytes) -> str:
     return "shared" if data.bits(4, 0) else ""
 
 
-def grouped(kind: str, data: Bytes, words: tuple[str, ...], source: int) -> Descriptor:
+def grouped(kind: str, data: Bytes, words: tuple, source: int) -> Descriptor:
     """A descriptor of a group of pins, whose label has its offset behind that of the source."""
     label = f"label {data.text(data.number(source + 2, 2))}"
-    return Descriptor(kind, words=(*words, label), source=data.text(data.number(source, 2)))
+    return said(kind, *words, label, source=data.text(data.number(source, 2)))
 
 
 def configured(data: Bytes) -> tuple[str, str]:
@@ -236,17 +214,15 @@ def configured(data: Bytes) -> tuple[str, str]:
 def serial_bus(data: Bytes) -> Descriptor:
     kind, kept, source = data.number(5, 1), data.number(7, 2), data.text(12 + data.number(10, 2))
     if kind == 1:
-        words = flags(f"{data.number(12, 4)} Hz", "10-bit address" if kept & 1 else "")
-        return Descriptor("I2cSerialBus", data.number(16, 2), digits=4, words=words, source=source)
+        words = f"{data.number(12, 4)} Hz", kept & 1 and "10-bit address"
+        return said("I2cSerialBus", *words, first=data.number(16, 2), digits=4, source=source)
     if kind == 2:
-        words = flags(
-            f"{data.number(12, 4)} Hz", f"{data.number(16, 1)} bits", "3 wires" if kept & 1 else "",
-            "select high" if kept & 2 else "", "second phase" if data.number(17, 1) else "",
-            "polarity high" if data.number(18, 1) else "",
-        )
-        return Descriptor("SpiSerialBus", data.number(19, 2), digits=4, words=words, source=source)
+        words = f"{data.number(12, 4)} Hz", f"{data.number(16, 1)} bits"
+        words += kept & 1 and "3 wires", kept & 2 and "select high"
+        words += data.number(17, 1) and "second phase", data.number(18, 1) and "polarity high"
+        return said("SpiSerialBus", *words, first=data.number(19, 2), digits=4, source=source)
     if kind == 3:
-        return Descriptor("UartSerialBus", words=(f"{data.number(12, 4)} baud",), source=source)
+        return said("UartSerialBus", f"{data.number(12, 4)} baud", source=source)
     if kind == 4:
         return Descriptor("Csi2Bus", source=source)
     raise ValueError("no such bus")
@@ -259,25 +235,22 @@ SMALLS = {
     0x04: (2, 3, irq), 0x05: (2, 2, dma), 0x06: (0, 1, start_dependent), 0x08: (7, 7, io), 0x0A: (5, 5, fixed_dma),
     0x07: (0, 0, lambda _: Descriptor("EndDependentFn")),
     0x09: (3, 3, lambda it: Descriptor("FixedIO", it.number(1, 2), length=it.number(3, 1), digits=4)),
-    0x0E: (0, 7, lambda it: Descriptor("VendorShort", words=(f"{len(it.data) - SMALL} bytes",))),
+    0x0E: (0, 7, lambda it: said("VendorShort", f"{len(it.data) - SMALL} bytes")),
 }
 LARGES = {
-    0x01: (9, 9, lambda it: memory("Memory24", it, 2, 8)), 0x02: (12, 12, register),
-    0x05: (17, 17, lambda it: memory("Memory32", it, 4, 0)), 0x07: (23, ANY, address_space("DWord", 4)),
-    0x08: (13, ANY, address_space("Word", 2)), 0x09: (6, ANY, interrupt), 0x0A: (43, ANY, address_space("QWord", 8)),
-    0x0B: (53, 53, address_space("Extended", 8)), 0x0C: (20, ANY, gpio), 0x0E: (9, ANY, serial_bus),
-    0x0D: (
-        15, ANY, lambda it: with_pins("PinFunction", it, (f"function {it.number(7, 2)}", shared(it)), (9, 12), 12),
-    ),
+    0x01: (9, 9, partial(memory, "Memory24", 2, 8)), 0x02: (12, 12, register),
+    0x05: (17, 17, partial(memory, "Memory32", 4, 0)),
+    0x07: (23, ANY, partial(address_space, "DWord", 4)), 0x08: (13, ANY, partial(address_space, "Word", 2)),
+    0x09: (6, ANY, interrupt), 0x0A: (43, ANY, partial(address_space, "QWord", 8)),
+    0x0B: (53, 53, partial(address_space, "Extended", 8)), 0x0C: (20, ANY, gpio), 0x0E: (9, ANY, serial_bus),
+    0x0D: (15, ANY, lambda it: with_pins("PinFunction", it, (f"function {it.number(7, 2)}", shared(it)), (9, 12), 12)),
     0x0F: (17, ANY, lambda it: with_pins("PinConfig", it, (*configured(it), shared(it)), (11, 14), 14)),
     0x11: (14, ANY, lambda it: grouped("PinGroupFunction", it, (f"function {it.number(6, 2)}",), 9)),
     0x12: (17, ANY, lambda it: grouped("PinGroupConfig", it, configured(it), 12)),
-    0x04: (0, ANY, lambda it: Descriptor("VendorLong", words=(f"{len(it.data) - LARGE} bytes",))),
-    0x06: (
-        9, 9, lambda it: Descriptor("Memory32Fixed", it.number(4, 4), length=it.number(8, 4), words=flags(read_only(it))),
-    ),
+    0x04: (0, ANY, lambda it: said("VendorLong", f"{len(it.data) - LARGE} bytes")),
+    0x06: (9, 9, lambda it: said("Memory32Fixed", read_only(it), first=it.number(4, 4), length=it.number(8, 4))),
     0x10: (11, ANY, lambda it: with_pins("PinGroup", it, (), (6, 8), 8)),
-    0x13: (9, ANY, lambda it: Descriptor("ClockInput", words=(f"{it.number(8, 4)}/{it.number(6, 2)}",))),
+    0x13: (9, ANY, lambda it: said("ClockInput", f"{it.number(8, 4)}/{it.number(6, 2)}")),
 }  # fmt: skip
 
 
@@ -285,20 +258,15 @@ def descriptors(data: bytes) -> list[Descriptor] | None:
     """The descriptors of a whole template, which ends with its end tag; None of any other bytes."""
     found, at = [], 0
     while at < len(data):
-        lead = data[at]
-        if lead >> 7:
-            size = LARGE + int.from_bytes(data[at + 1:at + 3], "little")
-            row = LARGES.get(lead & 0x7F)
-        else:
-            size = SMALL + (lead & 7)
-            row = SMALLS.get(lead >> 3)
-            if lead >> 3 == END:
-                return found if size == 2 and at + size == len(data) else None
-        head = LARGE if lead >> 7 else SMALL
-        if row is None or not row[0] <= size - head <= row[1] or at + size > len(data):
+        lead, head = data[at], LARGE if data[at] >> 7 else SMALL
+        size = head + (lead & 7 if head == SMALL else int.from_bytes(data[at + 1:at + 3], "little"))
+        if head == SMALL and lead >> 3 == END:
+            return found if size == 2 and at + size == len(data) else None
+        least, most, read = (SMALLS.get(lead >> 3) if head == SMALL else LARGES.get(lead & 0x7F)) or (1, 0, None)
+        if not least <= size - head <= most or at + size > len(data):
             return None
         try:
-            found.append(row[2](Bytes(data[at:at + size]))._replace(at=at, size=size))
+            found.append(read(Bytes(data[at:at + size]))._replace(at=at, size=size))
         except ValueError:
             return None
         at += size

@@ -3,8 +3,9 @@
 from __future__ import annotations
 
 import re
+from collections import namedtuple
 from collections.abc import Iterator
-from typing import NamedTuple, Optional
+from typing import Optional
 
 from acpidis_tools import aml
 from acpidis_tools.listing import Line
@@ -38,84 +39,44 @@ class Term:
     def argument(self, place: int) -> Term | None:
         return self.arguments[place] if place < len(self.arguments) else None
 
-    def inner(self) -> list[Term]:
-        """The terms in it, those in front first."""
-        elements = self.braced if isinstance(self.braced, list) else []
-        return [term for term in (*self.arguments, *elements) if term is not None]
-
-
-class Reader:
-    """Makes the term of a line, and the terms behind it as its siblings: in `FLD0, 8` stand two."""
-
-    def __init__(self) -> None:
-        self.siblings: list[Optional[Term]] = []
-        self.open: list[list[Optional[Term]]] = [self.siblings]
-        self.is_filled = [False]
-        self.last: Term | None = None
-
-    def word(self, word: str, place: int) -> None:
-        self.last = Term(word, place)
-        self.open[-1].append(self.last)
-        self.is_filled[-1] = True
-
-    def mark(self, mark: str, is_end: bool) -> None:
-        if mark == "," or mark == ")":
-            self.part(mark)
-        elif mark == "(" and self.last:
-            self.enter(self.last.arguments)
-        elif mark == "{" and self.last and not is_end:
-            self.last.braced = []
-            self.enter(self.last.braced)
-        elif mark == "}":
-            self.leave()
-        elif mark[0] == "{" and self.last:
-            self.last.braced = bytes.fromhex(mark[1:-1].replace(",", ""))
-        elif mark[0] not in "({":
-            self.word(mark, -1)
-
-    def part(self, mark: str) -> None:
-        """Ends an argument, which may be empty."""
-        if not self.is_filled[-1]:
-            self.open[-1].append(None)
-        self.is_filled[-1] = False
-        if mark == ")":
-            self.leave()
-
-    def enter(self, parts: list) -> None:
-        self.open.append(parts)
-        self.is_filled.append(False)
-
-    def leave(self) -> None:
-        if len(self.open) > 1:
-            self.open.pop()
-            self.is_filled.pop()
-            above = self.open[-1]
-            self.last = above[-1] if above else None
-
 
 def terms_of(line: Line) -> list[Term]:
     return terms_in(line.pieces) if line.term and line.term != "Raw" else []
 
 
 def terms_in(pieces: list[str]) -> list[Term]:
-    """The terms of a line's pieces, of which every second is a word."""
-    reader, last = Reader(), len(pieces) - 1
+    """The terms of a line's pieces, of which every second is a word: in `FLD0, 8` stand two, as siblings."""
+    siblings: list[Optional[Term]] = []
+    # The parts that are open, each with whether something stands in the last of them
+    opened: list[list] = [[siblings, False]]
+    last: Term | None = None
     for at, piece in enumerate(pieces):
-        if at % 2:
-            reader.word(piece, at // 2)
-            continue
-        marks = MARK.findall(piece)
-        for place, mark in enumerate(marks):
-            reader.mark(mark, at == last and place == len(marks) - 1)
-    return [term for term in reader.siblings if term is not None]
+        tokens = [piece] if at % 2 else MARK.findall(piece)
+        for number, token in enumerate(tokens, 1):
+            if at % 2 or token[0] not in "(){},":
+                last = Term(token, at // 2 if at % 2 else -1)
+                opened[-1][0].append(last)
+                opened[-1][1] = True
+            elif token in ",)}":
+                if token != "}":
+                    # It ends an argument, which may be empty.
+                    opened[-1][0] += [] if opened[-1][1] else [None]
+                    opened[-1][1] = False
+                if token != "," and len(opened) > 1:
+                    opened.pop()
+                    last = opened[-1][0][-1] if opened[-1][0] else None
+            elif last and token == "(":
+                opened.append([last.arguments, False])
+            elif last and token == "{" and not (at == len(pieces) - 1 and number == len(tokens)):
+                last.braced = []
+                opened.append([last.braced, False])
+            elif last and token[0] == "{":
+                last.braced = bytes.fromhex(token[1:-1].replace(",", ""))
+    return [term for term in siblings if term is not None]
 
 
-class Place(NamedTuple):
-    """Where a term stands: in which operator or call, as its part of which kind, and whether that is the last one."""
-
-    within: Optional[Term]
-    kind: str
-    number: int
+# Where a term stands: in which operator or call, as its part of which kind, and which part that is
+Place = namedtuple("Place", "within kind number")
 
 
 def places(terms: list[Term]) -> Iterator[tuple[Term, Place]]:
@@ -131,10 +92,3 @@ def places(terms: list[Term]) -> Iterator[tuple[Term, Place]]:
         ]
         parts += [(part, Place(term, "D", 0)) for part in term.braced] if isinstance(term.braced, list) else []
         waiting += reversed(parts)
-
-
-def is_written(place: Place) -> bool:
-    """Whether what stands there is a target of its operator, and not an object that is handed to it."""
-    if place.kind != "S" or place.within is None:
-        return False
-    return place.within.word not in OBJECT_OPERATORS and (place.within.word, place.number) != ("CondRefOf", 0)

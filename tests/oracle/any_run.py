@@ -43,7 +43,11 @@ class RunNamespace(Namespace):
 
     def rows(self):
         """The declared paths with the kinds of their first declarations, and their marks."""
-        return sorted((path, found[0][0], marks_of(found)) for path, found in self.declarations.items())
+        marks = {
+            path: ["Maybe"] * (not any(is_sure for _, is_sure in found)) + [f"Times {len(found)}"] * (len(found) > 1)
+            for path, found in self.declarations.items()
+        }
+        return sorted((path, found[0][0], marks[path]) for path, found in self.declarations.items())
 
     def counts(self, path):
         """How many arguments each of the kinds takes that may stand at a path; None where nobody knows."""
@@ -145,11 +149,6 @@ def own_count(kind):
     return kind[1] if kind[0] == "Method" else 0
 
 
-def marks_of(declarations):
-    marks = [] if any(is_sure for _, is_sure in declarations) else ["Maybe"]
-    return marks + ([f"Times {len(declarations)}"] if len(declarations) > 1 else [])
-
-
 @dataclass
 class RunReader(Reader):
     """Reads a table whose terms may run. `scope` is where the code stands, and `is_sure` whether what it declares is."""
@@ -225,15 +224,10 @@ def load(codes, given=(), unknown_zero=False):
         for table, code in enumerate(codes):
             loaded.trees.append(RunReader(code, space=loaded.space, table=table).read())
         for use in loaded.space.uses:
-            table = use.table
-            check(loaded.space, use, unknown_zero or use.in_declaration)
+            table, path = use.table, use.name.placed(use.scope)
+            # It may have another number of arguments after all tables than where it was read.
+            if loaded.space.arity(use.scope, unknown_zero or use.in_declaration)((), use.name) != use.count:
+                raise Refused("ModuleCall", path=None if path is None else path_text(path))
     except Refused as fault:
         raise Unloadable(fault, None if fault.name == "TooManyMethods" else table) from fault
     return loaded
-
-
-def check(space, use, unknown_zero):
-    """Refuses a name that has another number of arguments after all tables than where it was read."""
-    if space.arity(use.scope, unknown_zero)((), use.name) != use.count:
-        path = use.name.placed(use.scope)
-        raise Refused("ModuleCall", path=None if path is None else path_text(path))

@@ -9,15 +9,15 @@ It shares nothing with the program: the modules beside it read code, namespaces,
 import re
 import sys
 
-sys.dont_write_bytecode = True
-
-from dumps import RECORDS, Bad, Dump, addresses_of, little, order_of, records_of  # noqa: E402
-from folders import LineFault, parse_externals, parse_map  # noqa: E402
-from any_run import RunNamespace  # noqa: E402
-from loading import Body, Namespace, path_text  # noqa: E402
-from printing import hexadecimal, row_text, term_lines  # noqa: E402
-from reading import IF, METHOD, Name, Op, Reader, Refused  # noqa: E402
-from running import FLAGS, Options, run  # noqa: E402
+import trying  # noqa: F401
+from dumps import RECORDS, Bad, Dump, addresses_of, little, order_of, records_of
+from folders import LineFault, parse_externals, parse_map
+from any_run import RunNamespace
+from loading import Body, Namespace, path_text
+from made_sets import sealed
+from printing import hexadecimal, row_text, term_lines
+from reading import IF, METHOD, Name, Op, Reader, Refused
+from running import FLAGS, Options, run
 
 HEADER = b"\x02\0TEST  EXAMPLE \x01\0\0\0TEST\x01\0\0\0"
 WIDTHS = {1: "One", 2: "Two", 3: "Three", 4: "Four"}
@@ -47,6 +47,11 @@ def path_of(text):
     return tuple(name_of(text).segs)
 
 
+def count_of(words):
+    path, count = words.split()
+    return path_of(path), int(count)
+
+
 def options_of(words):
     """The options of a run: flags by the names of their fields, as `any_sum`, and `workers N`."""
     words = words.split()
@@ -54,7 +59,12 @@ def options_of(words):
     return Options(workers=workers, **{flag: flag in words for flag in FLAGS})
 
 
-# ---- code
+# ---- what is answered to rows of words and bytes
+
+
+def counted(words):
+    """A reader of a body in which each name takes so many arguments."""
+    return lambda code: Reader(code, lambda _declared, _name: int(words))
 
 
 def text_of(reader):
@@ -67,15 +77,15 @@ def text_of(reader):
     return [line for term in terms for line in term_lines(term, body_of, 0)]
 
 
-def each_text(reader):
-    """The text of each term that a reader reads: how many bytes it has, and its lines, joined by newlines."""
-    for term in reader.read():
+def each_text(words, code):
+    """The text of each term of a body: how many bytes it has, and its lines, joined by newlines."""
+    for term in counted(words)(code).read():
         lines = list(term_lines(term, None, 0))
         yield f"{len(chr(10).join(lines))} bytes:"
         yield from lines
 
 
-def cuts_text(code):
+def cuts_text(_, code):
     return [line for length in range(len(code)) for line in [f"{length} bytes:", *text_of(Reader(code[:length]))]]
 
 
@@ -89,53 +99,61 @@ class StepReader(Reader):
         return []
 
 
-def step_text(code, count, at):
+def step_text(words, code):
     """Where the term at an offset ends, and what stands inside it, where each name takes so many arguments."""
+    count, at = map(int, words.split())
     reader = StepReader(code, lambda _declared, _name: count)
     term, end = reader.term(at, len(code), "run", 1)
-    span = reader.span or (term.tail if isinstance(term, Op) and term.opcode == METHOD else None)
+    opcode = term.opcode if isinstance(term, Op) else None
+    span = reader.span or (term.tail if opcode == METHOD else None)
     inside = f", inside {span[1] - span[0]} bytes at {span[0]}" if span else ""
-    return f"to {end}{inside}" + (", an Else may follow" if isinstance(term, Op) and term.opcode == IF else "")
+    yield f"to {end}{inside}" + (", an Else may follow" if opcode == IF else "")
 
 
-def name_text(code):
+def name_text(_, code):
     name, length = Reader(code).name(0, len(code))
     lead = code[name.root + name.ups]
-    return [" ".join([f"{FORMS.get(lead, 'One')}, {length} bytes:", *["\\"] * name.root, *["^"] * name.ups, *name.segs])]
+    yield " ".join([f"{FORMS.get(lead, 'One')}, {length} bytes:", *["\\"] * name.root, *["^"] * name.ups, *name.segs])
 
 
-def length_text(code):
+def length_text(_, code):
     value, width = Reader(code).length(0, len(code))
-    return [f"{value} in width {WIDTHS[width]}"]
+    yield f"{value} in width {WIDTHS[width]}"
 
 
-# ---- single tables
-
-
-def entries_text(signature, table):
+def entries_text(signature):
     """The addresses that a table lists which is read as one of this signature."""
-    return [", ".join(f"{address:X}" for address in addresses_of(table, signature)) or "none"]
+    return lambda _, table: [", ".join(f"{address:X}" for address in addresses_of(table, signature)) or "none"]
 
 
-def record_text(record):
-    """The kind of a record with its fields, or with the bytes behind its length."""
-    label, *fields = RECORDS.get((record[0], len(record)), [f"Other {record[0]:X}:"])
-    values = [f"{little(record, at, width):X}" for _, at, width, _ in fields] or hexadecimal(record[2:])
-    return " ".join([label, *values])
+def madt_text(_, table):
+    """Of each record the kind, with its fields or with the bytes behind its length."""
+    yield f"Controller {little(table, 36, 4):X} Flags {little(table, 40, 4):X}"
+    for record in records_of(table):
+        label, *fields = RECORDS.get((record[0], len(record)), [f"Other {record[0]:X}:"])
+        values = [f"{little(record, at, width):X}" for _, at, width, _ in fields] or hexadecimal(record[2:])
+        yield " ".join([label, *values])
 
 
-def madt_text(table):
-    records = map(record_text, records_of(table))
-    return [f"Controller {little(table, 36, 4):X} Flags {little(table, 40, 4):X}", *records]
-
-
-# ---- answers
-
-
-def map_text(names, text):
-    addresses = parse_map(text, names)
-    given = {name: addresses.get(name.encode()) for name in names}
+def map_text(words, text):
+    addresses = parse_map(text, words.split(" "))
+    given = {name: addresses.get(name.encode()) for name in words.split(" ")}
     return [f"{name} {'none' if address is None else f'{address:X}'}" for name, address in given.items()]
+
+
+OF_BYTES = {
+    "terms": each_text, "step": step_text, "cuts": cuts_text, "name": name_text, "length": length_text,
+    "madt": madt_text, "xsdt": entries_text(b"XSDT"), "rsdt": entries_text(b"RSDT"), "map": map_text,
+    "body": lambda words, code: text_of(counted(words)(code)),
+    "table": lambda _, code: text_of(Reader(code)),
+    "kept": lambda _, code: ["".join(hexadecimal(code))],
+    "externals": lambda _, text: [f"{path_text(path)} {count}" for path, count in parse_externals(text)],
+    "many_rows": lambda words, _: [f"{words} at their places"],
+    "many_counted": lambda words, _: [f"{words} found by 1 to 64 comparisons"],
+}
+
+
+# ---- other answers
 
 
 def or_none(answer):
@@ -159,29 +177,6 @@ def kind_text(names, path):
     return or_none(kind and row_text(path, kind))
 
 
-def counted(words):
-    """A reader of a body in which each name takes so many arguments."""
-    return lambda code: Reader(code, lambda _declared, _name: int(words))
-
-
-# What is answered to rows of words and bytes.
-OF_BYTES = {
-    "body": lambda words, code: text_of(counted(words)(code)),
-    "terms": lambda words, code: list(each_text(counted(words)(code))),
-    "table": lambda _, code: text_of(Reader(code)),
-    "step": lambda words, code: [step_text(code, *map(int, words.split()))],
-    "cuts": lambda _, code: cuts_text(code),
-    "name": lambda _, code: name_text(code),
-    "length": lambda _, code: length_text(code),
-    "kept": lambda _, code: ["".join(hexadecimal(code))],
-    "xsdt": lambda _, table: entries_text(b"XSDT", table),
-    "rsdt": lambda _, table: entries_text(b"RSDT", table),
-    "madt": lambda _, table: madt_text(table),
-    "map": lambda words, text: map_text(words.split(" "), text),
-    "externals": lambda _, text: [f"{path_text(path)} {count}" for path, count in parse_externals(text)],
-    "many_rows": lambda words, _: [f"{words} at their places"],
-    "many_counted": lambda words, _: [f"{words} found by 1 to 64 comparisons"],
-}
 # To rows of a path, by the namespace; a declared path has a segment at least, and so is found by a comparison.
 OF_PATH = {
     "declared": lambda names, path: [
@@ -204,6 +199,10 @@ OF_NAME = {
     "arity": lambda names, scope, name, declared: or_none(names.arity(scope)(declared, name)),
     "arity_unknown_zero": lambda names, scope, name, declared: or_none(names.arity(scope, True)(declared, name)),
 }
+
+
+# Rows of a set
+OF_SETS = set("set dump raw cut put add order orders run".split())
 
 
 class Rows:
@@ -230,105 +229,75 @@ class Rows:
 
     def act(self, kind, words, data):
         if kind in OF_BYTES:
-            return OF_BYTES[kind](words, data)
+            return list(OF_BYTES[kind](words, data))
         if kind in OF_PATH:
             return OF_PATH[kind](self.names, path_of(words))
         if kind in OF_NAME:
             scope, name = words.split()
             return OF_NAME[kind](self.names, path_of(scope), name_of(name), self.declared)
-        act = getattr(self, "row_" + kind, None)
-        if not act:
-            raise ValueError(f"no such kind of row: {kind}")
-        return act(words, data)
+        return (self.of_sets if kind in OF_SETS else self.of_namespaces)(kind, words, data)
 
-    def row_method(self, words, code):
-        path = path_of(words)
-        return text_of(Reader(code, self.names.arity(path), path))
-
-    # sets
-
-    def row_set(self, _, __):
-        self.dumps, self.given = [], []
-
-    def row_dump(self, words, content):
-        name, signature = words.split(" ")
-        data = bytearray(signature.encode() + (36 + len(content)).to_bytes(4, "little") + HEADER + content)
-        data[9] = -sum(data) % 256
-        self.row_raw(name, bytes(data))
-
-    def row_raw(self, words, data):
-        name, _, address = words.partition("@")
-        self.dumps.append(Dump(name, int(address, 16) if address else None, data))
+    def of_sets(self, kind, words, data):
+        last = self.dumps[-1].data if self.dumps else b""
+        match kind:
+            case "set":
+                self.dumps, self.given = [], []
+            case "dump":
+                name, signature = words.split(" ")
+                self.of_sets("raw", name, sealed(signature.encode() + bytes(4) + HEADER + data))
+            case "raw":
+                name, _, address = words.partition("@")
+                self.dumps.append(Dump(name, int(address, 16) if address else None, data))
+            case "cut":
+                self.change(last[:int(words)])
+            case "put":
+                self.change(last[:int(words)] + data + last[int(words) + 1:])
+            case "add":
+                self.change(last + data)
+            case "order":
+                return [" ".join(map(str, order_of(self.dumps, options_of(words).any_sum)))]
+            case "orders":
+                lines = lambda left: self.change(last[:left]) or [f"{left} bytes:", *self.answer("order")]
+                return [line for left in reversed(range(int(words))) for line in lines(left)]
+            case "run":
+                status, out, err = self.run(options_of(words))
+                return [f"status {status}", *out.splitlines(), *err.splitlines()]
 
     def change(self, data):
         self.dumps[-1] = self.dumps[-1]._replace(data=data)
 
-    def row_cut(self, words, _):
-        self.change(self.dumps[-1].data[:int(words)])
+    def run(self, options):
+        return run(self.dumps, options, self.given)
 
-    def row_put(self, words, byte):
-        data = self.dumps[-1].data
-        self.change(data[:int(words)] + byte + data[int(words) + 1:])
-
-    def row_add(self, _, more):
-        self.change(self.dumps[-1].data + more)
-
-    def row_order(self, words, _):
-        return [" ".join(map(str, order_of(self.dumps, options_of(words).any_sum)))]
-
-    def row_orders(self, words, _):
-        answers = []
-        for left in reversed(range(int(words))):
-            self.row_cut(left, b"")
-            answers += [f"{left} bytes:", *self.answer("order")]
-        return answers
-
-    def row_run(self, words, _):
-        status, out, err = run(self.dumps, options_of(words), self.given)
-        return [f"status {status}", *out.splitlines(), *err.splitlines()]
-
-    # namespaces
-
-    def row_space(self, _, __):
-        self.names, self.declared = RunNamespace(), set()
-
-    def row_declare(self, words, _):
-        name, kind = declaration_of(words)
-        if tuple(name.segs) in self.names.declarations:
-            raise Refused("Duplicate", path=path_text(tuple(name.segs)))
-        self.names.declare_so((), name, kind, True)
-
-    def row_again(self, words, _):
-        self.names.declare_so((), *declaration_of(words), True)
-
-    def row_maybe(self, words, _):
-        self.names.declare_so((), *declaration_of(words), False)
-
-    def row_external(self, words, _):
-        path, count = words.split()
-        self.names.add_external(path_of(path), int(count))
-
-    def row_given(self, words, _):
-        """A count for a path that no table says anything of: in the namespace, and in the runs over the set."""
-        path, count = words.split()
-        self.names.give(path_of(path), int(count))
-        self.given.append((path_of(path), int(count)))
-
-    def row_local(self, words, _):
-        self.declared.add(path_of(words))
-
-    def row_locals(self, _, __):
-        return ["some" if self.declared else "none"]
-
-    def row_is_local(self, words, _):
-        return ["local" if path_of(words) in self.declared else "not local"]
-
-    def row_rows(self, _, __):
-        return [row_text(*row) for row in self.names.rows()]
-
-    def row_row_at(self, words, _):
-        rows = dict(enumerate(self.row_rows(words, _)))
-        return or_none(rows.get(int(words)))
+    def of_namespaces(self, kind, words, data):
+        rows = [row_text(*row) for row in self.names.rows()]
+        match kind:
+            case "method":
+                return text_of(Reader(data, self.names.arity(path_of(words)), path_of(words)))
+            case "space":
+                self.names, self.declared = RunNamespace(), set()
+            case "declare" | "again" | "maybe":
+                name, declared = declaration_of(words)
+                if kind == "declare" and tuple(name.segs) in self.names.declarations:
+                    raise Refused("Duplicate", path=path_text(tuple(name.segs)))
+                self.names.declare_so((), name, declared, kind != "maybe")
+            case "external":
+                self.names.add_external(*count_of(words))
+            case "given":  # in the namespace, and in the runs over the set
+                self.names.give(*count_of(words))
+                self.given.append(count_of(words))
+            case "local":
+                self.declared.add(path_of(words))
+            case "locals":
+                return ["some" if self.declared else "none"]
+            case "is_local":
+                return ["local" if path_of(words) in self.declared else "not local"]
+            case "rows":
+                return rows
+            case "row_at":
+                return or_none(dict(enumerate(rows)).get(int(words)))
+            case _:
+                raise ValueError(f"no such kind of row: {kind}")
 
 
 def main():

@@ -14,7 +14,6 @@ more. With --workers each is run by each of these numbers of workers. With --rea
 said how the sets end. The same seed makes the same sets.
 """
 
-import argparse
 import collections
 import dataclasses
 import itertools
@@ -25,58 +24,43 @@ import re
 import resource
 import shutil
 import subprocess
-import sys
 import tempfile
-import threading
 import time
 
-sys.dont_write_bytecode = True
-
-from folders import file_names  # noqa: E402
-from made_sets import SetMaker, Trial  # noqa: E402
-from running import DONE, RAW, REFUSED, Options, Outcome, run_folder  # noqa: E402
-from set_mutating import SetMutator  # noqa: E402
+from trying import asked, built, end, run
+from folders import file_names
+from made_sets import SetMaker
+from mutating import MutatedMaker
+from running import DONE, RAW, REFUSED, Options, Outcome, run_folder
 
 FOLDER, EXTERNALS = "set", "externals.txt"
 MARK = re.compile(r"(?<= )(Maybe|Times)(?= [0-9]+$|$| Times [0-9]+$)", re.MULTILINE)
-PROGRAM = pathlib.Path(__file__).resolve().parents[2] / "out/acpidis"
 LONGEST_RUN, MOST_SECONDS = 60, 10
 MOST_MEMORY, MEMORY_STOP = 2 << 30, 6 << 30
-MOST_DIFFERENCES, MOST_CHANGES = 5, 4
+MOST_DIFFERENCES = 5
 
 
 def measured_run(program, folder, options):
     """What the program does, and what it takes that is too much."""
     limit = lambda: resource.setrlimit(resource.RLIMIT_AS, (MEMORY_STOP, MEMORY_STOP))
     with tempfile.TemporaryFile() as out, tempfile.TemporaryFile() as err:
-        words = [program, *options.words(), folder]
-        child = subprocess.Popen(words, stdout=out, stderr=err, stdin=subprocess.DEVNULL, preexec_fn=limit)
-        stop = threading.Timer(LONGEST_RUN, child.kill)
-        stop.start()
-        _, status, usage = os.wait4(child.pid, 0)
-        stop.cancel()
-        child.returncode = os.waitstatus_to_exitcode(status)
-        texts = []
-        for file in (out, err):
-            file.seek(0)
-            texts.append(file.read().decode("latin-1"))
-    seconds, memory = usage.ru_utime + usage.ru_stime, usage.ru_maxrss * 1024
-    much = [f"{seconds:.1f} s of a processor"] * (seconds > MOST_SECONDS) + [f"{memory / 1e6:.0f} MB"] * (memory > MOST_MEMORY)
-    return Outcome(child.returncode, *texts), ", ".join(much)
+        how = {"stdout": out, "stderr": err, "stdin": subprocess.DEVNULL, "preexec_fn": limit}
+        took = run([program, *options.words(), folder], LONGEST_RUN, **how)
+        texts = [os.pread(file.fileno(), os.fstat(file.fileno()).st_size, 0).decode("latin-1") for file in (out, err)]
+    much = [f"{took.processor:.1f} s of a processor"] * (took.processor > MOST_SECONDS)
+    much += [f"{took.peak / 1e6:.0f} MB"] * (took.peak > MOST_MEMORY)
+    return Outcome(took.status, *texts), ", ".join(much)
 
 
 def run_program(program, folder, options):
     return measured_run(program, folder, options)[0]
 
 
-def lines_of(outcome):
-    first_error = outcome.err.partition("\n")[0]
-    return [f"status {outcome.status} {first_error}".strip(), *outcome.err.split("\n"), *outcome.out.split("\n")]
-
-
 def first_difference(got, wanted):
     """Which line two outcomes differ in first, of status, errors and text; None where they are the same."""
-    pairs = itertools.zip_longest(lines_of(got), lines_of(wanted), fillvalue="the end")
+    status = lambda it: f"status {it.status} {it.err.partition(chr(10))[0]}".strip()
+    lines = ([status(it), *it.err.split("\n"), *it.out.split("\n")] for it in (got, wanted))
+    pairs = itertools.zip_longest(*lines, fillvalue="the end")
     return next((f"{one!r}, not {other!r}" for one, other in pairs if one != other), None)
 
 
@@ -121,36 +105,7 @@ class Comparison:
             print(f"{self.decided} sets that a file of externals changes")
         if self.marks:
             print(f"{self.marks['Maybe']} paths that only may stand, {self.marks['Times']} that are declared several times")
-        print(f"{self.ends.total() - self.differences} passed, {self.differences} failed")
-
-
-class MutatedMaker:
-    """Makes sets with changes, in place of a maker of sets: of its sets, and of known ones."""
-
-    def __init__(self, maker):
-        self.maker, self.chance, self.known = maker, maker.chance, maker.known
-        self.mutator = SetMutator(self.chance, maker.any_run)
-        for files in self.known:
-            self.mutator.learn(files)
-
-    def trial(self):
-        if self.known and self.chance.random() < 0.6:
-            files = self.chance.choice(self.known)
-            trial = Trial(files, self.maker.options(True), self.known_externals(files))
-        else:
-            trial = self.maker.trial()
-            self.mutator.learn(trial.files)
-        for _ in range(self.chance.choice((1, 1, 1, 2, MOST_CHANGES))):
-            trial.files = self.mutator.mutated(trial.files)
-        return trial
-
-    def known_externals(self, files):
-        """A file for `--externals` with names that stand in the tables."""
-        if not self.maker.gives or self.chance.random() < 0.2:
-            return None
-        segments = self.mutator.segments_of(files) or ["AAAA"]
-        paths = [".".join(self.chance.choices(segments, k=self.chance.choice((1, 1, 1, 2, 3)))) for _ in range(20)]
-        return "".join(f"\\{path} {self.chance.randrange(8)}\n" for path in paths).encode()
+        end(self.ends.total() - self.differences, self.differences)
 
 
 def kept_words(folder, options):
@@ -174,44 +129,28 @@ def write_trial(room, trial):
     return folder, dataclasses.replace(trial.options, externals=str(room / EXTERNALS))
 
 
-def arguments():
-    words = argparse.ArgumentParser(description=__doc__, formatter_class=argparse.RawDescriptionHelpFormatter)
-    words.add_argument("folders", nargs="*", type=pathlib.Path)
-    words.add_argument("--seconds", type=float, default=60)
-    words.add_argument("--sets", type=int, help="compare so many made-up sets, however long it takes")
-    words.add_argument("--seed", type=int, default=0)
-    words.add_argument("--with-externals", action="store_true", help="make up files for the option --externals too")
-    words.add_argument("--any-run", action="store_true", help="make up code outside methods, for this option")
-    words.add_argument("--deep", action="store_true", help="scopes of 100 to 2,000 segments for a third of the sets")
-    words.add_argument("--mutated", action="store_true", help="change each set once more")
-    words.add_argument("--read", action="store_true", help="run no program")
-    words.add_argument("--workers", type=lambda text: [int(it) for it in text.split(",")], help="run each set by these")
-    words.add_argument("--program", type=pathlib.Path, default=PROGRAM, help="another program than out/acpidis")
-    asked = words.parse_args()
-    if not asked.read and not asked.program.exists():
-        sys.exit("the program isn't built: ./acpidis demo builds it")
-    return asked
-
-
 def main():
-    asked = arguments()
-    comparison = Comparison(None if asked.read else asked.program.resolve(), asked.workers)
-    for folder in asked.folders:
-        comparison.compare(folder, Options(any_run=asked.any_run))
-        comparison.compare(folder, Options(any_run=asked.any_run, check=True))
-    known = [{name: (folder / name).read_bytes() for name in file_names(folder)} for folder in asked.folders]
-    maker = SetMaker(random.Random(asked.seed), known, asked.with_externals, asked.any_run, asked.deep)
-    maker = MutatedMaker(maker) if asked.mutated else maker
-    number, until = 0, time.monotonic() + asked.seconds
-    while number < asked.sets if asked.sets is not None else time.monotonic() < until:
+    words = asked(
+        __doc__, seconds=60.0, sets=int, seed=0, with_externals=False, any_run=False, deep=False, mutated=False,
+        read=False, workers="", folders=(),
+    )  # fmt: skip
+    workers = [int(it) for it in words.workers.split(",")] if words.workers else None
+    comparison = Comparison(None if words.read else built(), workers)
+    for folder in words.folders:
+        comparison.compare(folder, Options(any_run=words.any_run))
+        comparison.compare(folder, Options(any_run=words.any_run, check=True))
+    known = [{name: (folder / name).read_bytes() for name in file_names(folder)} for folder in words.folders]
+    maker = SetMaker(random.Random(words.seed), known, words.with_externals, words.any_run, words.deep)
+    maker = MutatedMaker(maker) if words.mutated else maker
+    number, until = 0, time.monotonic() + words.seconds
+    while number < words.sets if words.sets is not None else time.monotonic() < until:
         if comparison.differences >= MOST_DIFFERENCES:
             break
         trial, number = maker.trial(), number + 1
         with tempfile.TemporaryDirectory() as room:
             comparison.compare(*write_trial(pathlib.Path(room), trial))
-    print(f"seed {asked.seed}")
+    print(f"seed {words.seed}")
     comparison.report()
-    sys.exit(comparison.differences > 0)
 
 
 if __name__ == "__main__":

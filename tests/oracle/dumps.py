@@ -71,13 +71,6 @@ def is_wide(root):
     return root[15] >= 2
 
 
-def check_root(data):
-    if len(data) < 20:
-        raise Bad("BadRoot")
-    if is_wide(data) and (len(data) < 36 or not 36 <= little(data, 20, 4) <= len(data)):
-        raise Bad("BadRoot")
-
-
 def root_sums(data):
     return sums_to_zero(data[:20]) and (not is_wide(data) or sums_to_zero(data[:little(data, 20, 4)]))
 
@@ -107,7 +100,9 @@ def check_dump(data, any_sum):
     if len(data) > MOST_BYTES:
         raise Bad("TooLarge")
     if data.startswith(ROOT):
-        check_root(data)
+        is_whole = len(data) >= 20 and (not is_wide(data) or len(data) >= 36 and 36 <= little(data, 20, 4) <= len(data))
+        if not is_whole:
+            raise Bad("BadRoot")
         if not any_sum and not root_sums(data):
             raise Bad("BadSum")
     elif data.startswith(FACS):
@@ -172,7 +167,9 @@ def order_by_chain(dumps):
     roots, fadts, dsdts, ssdts = (signed(dumps, word) for word in (ROOT, b"FACP", b"DSDT", b"SSDT"))
     if not roots:
         raise Bad("RootMissing")
-    signature, address = list_of(dumps[roots[0]].data)
+    root = dumps[roots[0]].data
+    xsdt = little(root, 24, 8) if is_wide(root) else 0
+    signature, address = (b"XSDT", xsdt) if xsdt else (b"RSDT", little(root, 16, 4))
     tables = at.get(address)
     if tables not in signed(dumps, signature):
         raise Bad("RootMissing", roots[0])
@@ -180,21 +177,11 @@ def order_by_chain(dumps):
     fadts = [index for index in listed if index in fadts]
     if not fadts:
         raise Bad("FadtMissing", tables)
-    dsdt = at.get(dsdt_address(table_of(dumps[fadts[0]].data)))
+    fadt = table_of(dumps[fadts[0]].data)
+    dsdt = at.get((little(fadt, 140, 8) if len(fadt) >= 148 else 0) or little(fadt, 40, 4))
     if dsdt not in dsdts:
         raise Bad("NoDsdt")
     return [dsdt, *dict.fromkeys(index for index in listed if index in ssdts)]
-
-
-def list_of(root):
-    """The signature and the address of the table from which a root pointer leads on."""
-    xsdt = little(root, 24, 8) if is_wide(root) else 0
-    return (b"XSDT", xsdt) if xsdt else (b"RSDT", little(root, 16, 4))
-
-
-def dsdt_address(fadt):
-    wide = little(fadt, 140, 8) if len(fadt) >= 148 else 0
-    return wide or little(fadt, 40, 4)
 
 
 def dump_lines(dumps):

@@ -6,22 +6,18 @@
 Each OPTION is one of acpidis.
 """
 
-import argparse
 import dataclasses
+import pathlib
 import sys
 
-sys.dont_write_bytecode = True
-
-from running import Options, option_of, run_folder  # noqa: E402
+from trying import asked
+from running import Options, run_folder
 
 
 def main():
-    words = argparse.ArgumentParser(description=__doc__, formatter_class=argparse.RawDescriptionHelpFormatter)
-    words.add_argument("folder")
-    for field in dataclasses.fields(Options):
-        words.add_argument(option_of(field.name), **field.metadata["argument"])
-    asked = vars(words.parse_args())
-    outcome = run_folder(asked.pop("folder"), Options(**asked))
+    known = {it.name: it.metadata.get("type", False) for it in dataclasses.fields(Options)}
+    words = vars(asked(__doc__, **known, folder=pathlib.Path()))
+    outcome = run_folder(words.pop("folder"), Options(**words))
     sys.stdout.write(outcome.out)
     sys.stderr.write(outcome.err)
     sys.exit(outcome.status)

@@ -37,13 +37,6 @@ def shortest(name):
     return prefix_of(name) + lead + "".join(name.segs).encode()
 
 
-def spelled(chance, name):
-    """The bytes of a name, in one of the forms that it can have."""
-    if len(name.segs) in (1, 2) and chance.random() >= 0.85:
-        return prefix_of(name) + b"/%c" % len(name.segs) + "".join(name.segs).encode()
-    return shortest(name)
-
-
 def package_length(content, least_width):
     """The shortest package length over this many bytes that has at least so many bytes itself."""
     width = next(width for width in range(least_width, WIDEST + 1) if content + width < BOUNDS[width - 1])
@@ -132,7 +125,10 @@ class Maker:
     # ---- names
 
     def spelled(self, name):
-        return spelled(self.chance, name)
+        """The bytes of a name, in one of the forms that it can have."""
+        if len(name.segs) in (1, 2) and self.chance.random() >= 0.85:
+            return prefix_of(name) + b"/%c" % len(name.segs) + "".join(name.segs).encode()
+        return shortest(name)
 
     def fresh_segment(self):
         self.fresh_count += 1

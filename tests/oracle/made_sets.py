@@ -93,15 +93,6 @@ def madt(chance):
     return table(chance, b"APIC", chance.randbytes(8) + records + broken)
 
 
-def facs(chance):
-    length = chance.choice((8, 9, 64))
-    return FACS + length.to_bytes(4, "little") + chance.randbytes(length - 8)
-
-
-def other(chance):
-    return table(chance, chance.choice(SIGNATURES), chance.randbytes(chance.randrange(40)))
-
-
 class SetMaker:
     """Makes one trial after another: of made-up tables, or of the known folders, given by the contents of their files.
     Where `gives` is set, most of them have a file for `--externals`; where `any_run` is, code outside methods and its option;
@@ -202,14 +193,13 @@ class SetMaker:
 
     def extra_files(self):
         chance = self.chance
+        other = lambda: table(chance, chance.choice(SIGNATURES), chance.randbytes(chance.randrange(40)))
+        facs = lambda length: FACS + length.to_bytes(4, "little") + chance.randbytes(length - 8)
         makers = {
             "rsdp.dat": lambda: root(chance, chance.choice((0, 2)), chance.randrange(1 << 32), chance.randrange(1 << 64)),
             **{name: lambda name=name: self.stray_list(name) for name in LIST_FILES},
-            "facp.dat": lambda: fadt(chance, chance.randrange(1 << 32)),
-            "apic.dat": lambda: madt(chance),
-            "facs.dat": lambda: facs(chance),
-            "other.dat": lambda: other(chance),
-            "other2.dat": lambda: other(chance),
+            "facp.dat": lambda: fadt(chance, chance.randrange(1 << 32)), "apic.dat": lambda: madt(chance),
+            "facs.dat": lambda: facs(chance.choice((8, 9, 64))), "other.dat": other, "other2.dat": other,
         }
         return {name: make() for name, make in makers.items() if self.happens(0.25)}
 

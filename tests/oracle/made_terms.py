@@ -1,7 +1,7 @@
 """Makes up small tables as terms that declare, open and alias a few paths, so that these meet."""
 
 import itertools
-from typing import NamedTuple
+from collections import namedtuple
 
 from made_code import package_length, shortest
 from reading import Name
@@ -27,14 +27,9 @@ SEGMENTS, RARE_SEGMENTS = ["AAAA", "BBBB", "CCCC"], ["_SB_", "_OSI"]
 MOST_DEPTH = 3
 
 
-class Term(NamedTuple):
+class Term(namedtuple("Term", "word names count inside", defaults=[(), 0, ()])):
     """A term of a table: its names, of which it declares the last, the count of a method or an External, and the terms
     or units inside."""
-
-    word: str
-    names: tuple = ()
-    count: int = 0
-    inside: tuple = ()
 
     def __str__(self):
         parts = [*map(str, self.names), *[str(self.count)] * (self.word in COUNTED)]

@@ -66,21 +66,17 @@ def term_lines(term, body_of, level):
     if not isinstance(term, Op) or term.row.tail in ("", "y", "e"):
         yield indent + inline(term)
         return
-    yield f"{indent}{method_head(term) if term.opcode == METHOD else head(term)} {{"
     if term.opcode == METHOD:
+        flags = term.parts[1][1]
+        serialized = "Serialized" if flags & 8 else "NotSerialized"
+        yield f"{indent}Method ({term.parts[0]}, {flags & 7}, {serialized}, {flags >> 4}) {{"
         yield from body_lines(body_of(term), level + 1)
-    elif term.row.tail == "f":
-        yield from (f"{indent}  {unit_text(unit)}" for unit in term.tail)
     else:
+        yield f"{indent}{head(term)} {{"
         for inner in term.tail:
-            yield from term_lines(inner, body_of, level + 1)
+            is_unit = term.row.tail == "f"
+            yield from [f"{indent}  {unit_text(inner)}"] if is_unit else term_lines(inner, body_of, level + 1)
     yield indent + "}"
-
-
-def method_head(term):
-    flags = term.parts[1][1]
-    serialized = "Serialized" if flags & 8 else "NotSerialized"
-    return f"Method ({term.parts[0]}, {flags & 7}, {serialized}, {flags >> 4})"
 
 
 def body_lines(body, level):

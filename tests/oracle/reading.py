@@ -5,6 +5,7 @@ It is slow and simple on purpose: what it prints is compared with what the progr
 
 import pathlib
 import sys
+from collections import namedtuple
 from dataclasses import dataclass, field
 
 MOST_LEVELS = 512
@@ -23,15 +24,8 @@ class Refused(Exception):
         return self.name + (f" at {self.at}" if self.at is not None else "") + (f" {self.path}" if self.path else "")
 
 
-@dataclass
-class Row:
-    """An opcode: its mnemonic, whether it has a package length, the kinds of its parts, the kind of its tail, its group."""
-
-    mnemonic: str
-    packed: bool
-    parts: str
-    tail: str
-    group: str
+# An opcode: its mnemonic, whether it has a package length, the kinds of its parts, the kind of its tail, its group
+Row = namedtuple("Row", "mnemonic packed parts tail group")
 
 
 def rows_of(group, lines):

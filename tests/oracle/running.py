@@ -14,24 +14,19 @@ DONE, REFUSED, RAW = 0, 1, 3
 
 def flag(share):
     """A field for an option without a value, and how many of the made-up sets have it: 0 is none, 1 all."""
-    return field(default=False, metadata={"share": share, "argument": {"action": "store_true"}})
-
-
-def valued(**argument):
-    """A field for an option with a value, which argparse reads so."""
-    return field(default=None, metadata={"argument": argument})
+    return field(default=False, metadata={"share": share})
 
 
 @dataclass(frozen=True)
 class Options:
     """The options of a run. What else has to know them goes by these fields, so that none is named twice."""
 
-    workers: int | None = valued(type=int, choices=range(1, 65), metavar="N", help="makes no difference")
+    workers: int | None = field(default=None, metadata={"type": int})
     any_sum: bool = flag(0.2)
     any_run: bool = flag(0)
     unknown_zero: bool = flag(0.25)
     check: bool = flag(0.15)
-    externals: str | None = valued(metavar="FILE", help="counts for paths that no table says anything of")
+    externals: str | None = field(default=None, metadata={"type": str})
 
     def words(self):
         """The options as words of the command line, those with a value first."""

@@ -9,16 +9,13 @@ An open Alias is kept with any target.
 The last line is 'N passed, N failed', by the lists; 150 names are asked of each.
 """
 
-import argparse
 import itertools
 import random
-import sys
 
-sys.dont_write_bytecode = True
-
-from any_run import RunNamespace, agreed  # noqa: E402
-from loading import Namespace, path_text  # noqa: E402
-from reading import Name  # noqa: E402
+from trying import asked, end
+from any_run import RunNamespace, agreed
+from loading import Namespace, path_text
+from reading import Name
 
 SEGMENTS = ["AAAA", "BBBB", "_OSI", "_SB_"]
 PATHS = [(one,) for one in SEGMENTS] + [("_SB_", "AAAA"), ("_SB_", "BBBB"), ("_SB_", "AAAA", "BBBB"), ("AAAA", "BBBB")]
@@ -100,12 +97,9 @@ def fails_of(declarations, externals):
 
 
 def main():
-    words = argparse.ArgumentParser(description=__doc__, formatter_class=argparse.RawDescriptionHelpFormatter)
-    words.add_argument("--lists", type=int, default=200)
-    words.add_argument("--seed", type=int, default=0)
-    asked = words.parse_args()
-    chance, failed = random.Random(asked.seed), 0
-    for _ in range(asked.lists):
+    words = asked(__doc__, lists=200, seed=0)
+    chance, failed = random.Random(words.seed), 0
+    for _ in range(words.lists):
         declarations = made_declarations(chance)
         # What Externals say of some paths
         counts = [(chance.choice(PATHS), chance.randrange(3)) for _ in range(chance.choice((0, 0, 1, 3)))]
@@ -113,9 +107,8 @@ def main():
         failed += bool(fails)
         for fail in fails[:1]:
             print(f"FAILED {fail}")
-    print(f"{asked.lists - failed} passed, {failed} failed")
-    return int(failed > 0)
+    end(words.lists - failed, failed)
 
 
 if __name__ == "__main__":
-    sys.exit(main())
+    main()

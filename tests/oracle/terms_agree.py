@@ -1,7 +1,7 @@
 #!/usr/bin/env python3
 """Runs made-up tables in every way, and compares what stands then with what acpidis --any-run tells of them.
 
-    python3 tests/oracle/terms_agree.py [--counts N] [--seed N] [--read] [--program PROGRAM]
+    python3 tests/oracle/terms_agree.py [--counts N] [--seed N] [--read]
 
 All runs of a few terms are made here, as an interpreter would run them: a declaration is passed over, with all that
 stands inside, where its path is there already, or the path above it isn't; an Alias too where its source isn't; a
@@ -15,26 +15,23 @@ the independent reading is tried in place of the program. What is counted are th
 line is 'N passed, N failed'.
 """
 
-import argparse
 import itertools
 import pathlib
 import random
 import re
-import sys
 import tempfile
-from typing import NamedTuple
+from collections import namedtuple
 
-sys.dont_write_bytecode = True
-
-from compare import PROGRAM, run_program, write_trial  # noqa: E402
-from loading import PREDEFINED, path_text  # noqa: E402
-from made_code import package_length, shortest  # noqa: E402
-from made_sets import Trial, table  # noqa: E402
-from made_terms import BLOCKS, DEVICES, RARE_SEGMENTS, SEGMENTS, TermMaker  # noqa: E402
-from made_terms import code_of, root_name, text_of  # noqa: E402
-from printing import row_text  # noqa: E402
-from reading import Name  # noqa: E402
-from running import DONE, RAW, REFUSED, Options, run_folder  # noqa: E402
+from trying import asked, built, end
+from compare import run_program, write_trial
+from loading import PREDEFINED, path_text
+from made_code import package_length, shortest
+from made_sets import Trial, table
+from made_terms import BLOCKS, DEVICES, RARE_SEGMENTS, SEGMENTS, TermMaker
+from made_terms import code_of, root_name, text_of
+from printing import row_text
+from reading import Name
+from running import DONE, RAW, REFUSED, Options, run_folder
 
 SCOPES = {"Scope", *DEVICES}
 MOST_RUNS, QUESTIONS = 100, 12
@@ -129,12 +126,8 @@ def count_in(run, question):
     return None
 
 
-class Question(NamedTuple):
+class Question(namedtuple("Question", "method name local")):
     """A method that asks what a name takes, with a local path in front, if there is one."""
-
-    method: tuple
-    name: Name
-    local: tuple | None
 
     def __str__(self):
         local = f" behind the local {path_text(self.local)}" if self.local else ""
@@ -230,59 +223,41 @@ def outcome_of(program, chance, codes):
         return run_program(program, folder, options) if program else run_folder(folder, options)
 
 
-class Comparison:
-    """Compares one made-up set after another. `wrong` counts those with something wrong, `silent` the last ones without
-    a count."""
-
-    def __init__(self, program):
-        self.program, self.passed, self.failed, self.wrong, self.silent = program, 0, 0, 0, 0
-
-    def compare(self, maker):
-        tables = maker.tables()
-        runs = runs_of(tables)
-        if len(runs) > MOST_RUNS:
-            return
-        questions = list(questions_of(maker.chance, runs))
-        outcome = outcome_of(self.program, maker.chance, [*map(code_of, tables), code_of(questions)])
-        try:
-            told = told_by(outcome, questions)
-            compared = [(run, it) for run in runs for it in told.compared(run, questions)] if told else []
-        except Wrong as wrong:
-            compared = [(None, str(wrong))]
-        self.silent = 0 if compared else self.silent + 1
-        self.count(tables, compared)
-
-    def count(self, tables, compared):
-        wrong = [(run, it) for run, it in compared if it]
-        self.passed += len(compared) - len(wrong)
-        self.failed += len(wrong)
-        self.wrong += bool(wrong)
-        for run, it in wrong[:1]:
-            stands = ", ".join(itertools.starmap(row_text, run.items())) or "nothing" if run is not None else ""
-            print(f"FAILED {' | '.join(map(text_of, tables))}: {it}" + (f" in the run with {stands}" if stands else ""))
+def compared(program, chance, tables):
+    """Of each count in a run, with that run, None where it is told so, else what is wrong. None where there are too
+    many runs."""
+    runs = runs_of(tables)
+    if len(runs) > MOST_RUNS:
+        return None
+    questions = list(questions_of(chance, runs))
+    outcome = outcome_of(program, chance, [*map(code_of, tables), code_of(questions)])
+    try:
+        told = told_by(outcome, questions)
+        return [(run, it) for run in runs for it in told.compared(run, questions)] if told else []
+    except Wrong as wrong:
+        return [(None, str(wrong))]
 
 
 def main():
-    words = argparse.ArgumentParser(description=__doc__, formatter_class=argparse.RawDescriptionHelpFormatter)
-    words.add_argument("--counts", type=int, default=20_000)
-    words.add_argument("--seed", type=int, default=0)
-    words.add_argument("--read", action="store_true", help="try the independent reading")
-    words.add_argument("--program", type=pathlib.Path, default=PROGRAM, help="another program than out/acpidis")
-    asked = words.parse_args()
-    if not asked.read and not asked.program.exists():
-        sys.exit("the program isn't built: ./acpidis demo builds it")
-    comparison = Comparison(None if asked.read else asked.program.resolve())
-    maker = TermMaker(random.Random(asked.seed))
-    while comparison.passed + comparison.failed < asked.counts and comparison.wrong < MOST_WRONG:
-        if comparison.silent >= MOST_SILENT:
-            break
-        comparison.compare(maker)
-    if comparison.silent >= MOST_SILENT:
-        comparison.failed += 1
+    words = asked(__doc__, counts=20_000, seed=0, read=False)
+    program, maker = None if words.read else built(), TermMaker(random.Random(words.seed))
+    passed = failed = sets = silent = 0
+    while passed + failed < words.counts and sets < MOST_WRONG and silent < MOST_SILENT:
+        tables = maker.tables()
+        found = compared(program, maker.chance, tables)
+        if found is None:
+            continue
+        wrong = [(run, it) for run, it in found if it]
+        silent = 0 if found else silent + 1
+        passed, failed, sets = passed + len(found) - len(wrong), failed + len(wrong), sets + bool(wrong)
+        for run, it in wrong[:1]:
+            stands = ", ".join(itertools.starmap(row_text, run.items())) or "nothing" if run is not None else ""
+            print(f"FAILED {' | '.join(map(text_of, tables))}: {it}" + (f" in the run with {stands}" if stands else ""))
+    if silent >= MOST_SILENT:
+        failed += 1
         print(f"FAILED {MOST_SILENT} sets one after the other tell no count")
-    print(f"{comparison.passed} passed, {comparison.failed} failed")
-    return int(comparison.failed > 0)
+    end(passed, failed)
 
 
 if __name__ == "__main__":
-    sys.exit(main())
+    main()

@@ -1,6 +1,7 @@
 """The definition blocks of a listing as texts of ASL."""
 
 import re
+from collections import namedtuple
 
 from acpidis_tools import listing, running
 from acpidis_tools.asl import fields, language, terms
@@ -16,12 +17,8 @@ class Refused(listing.NoListing):
     """The listing hasn't got what is asked for: why."""
 
 
-class Table:
+class Table(namedtuple("Table", "number file signature revision oem oem_table oem_revision")):
     """A line of the listing about a table with a header: its number, and the header's fields as the line has them."""
-
-    def __init__(self, number, form):
-        self.number = number
-        self.file, self.signature, self.revision, self.oem, self.oem_table, self.oem_revision = form.groups()
 
     def head(self, signature, tell):
         """The line that begins its definition block."""
@@ -164,7 +161,7 @@ class Reader:
             lines = listing.reader_of(opened.read())
         dumps = lines.dumps()
         forms = [(dump, TABLE.fullmatch(dump.text)) for dump in dumps]
-        tables = {dump.file: Table(dump.number, form) for dump, form in forms if form}
+        tables = {dump.file: Table(dump.number, *form.groups()) for dump, form in forms if form}
         self.rows = [self.space.add(row) for row in lines.rows()]
         while lines.at < len(lines.lines):
             number, block = lines.at + 1, lines.block()

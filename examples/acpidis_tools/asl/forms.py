@@ -5,12 +5,10 @@ import os
 from acpidis_tools import aml, command
 from acpidis_tools.listing import file_name
 
-LIMITS = (1 << 6, 1 << 12, 1 << 20, 1 << 28)
-
 
 def shortest(size):
     """How many bytes iasl takes for the length of so many bytes behind it, or of a unit of so many bits."""
-    return next((width for width, limit in enumerate(LIMITS, 1) if size + width < limit), len(LIMITS))
+    return next((width for width, limit in enumerate(aml.LIMITS, 1) if size + width < limit), len(aml.LIMITS))
 
 
 class Reader(aml.Reader):
@@ -45,9 +43,9 @@ class Reader(aml.Reader):
             rest = self.term(rest, end, "T", level + 1)[1]
         return aml.Term(at, str(name)), rest
 
-    def units(self, at, end, level):
+    def units(self, *where):
         self.in_units = True
-        units = super().units(at, end, level)
+        units = super().units(*where)
         self.in_units = False
         return units
 

@@ -113,12 +113,6 @@ def spelled(term):
     return "".join([term.word, *inner])
 
 
-def depth_of(text):
-    """How many brackets are open at most."""
-    steps = ({"(": 1, "{": 1, ")": -1, "}": -1}.get(found[0], 0) for found in BRACKET.finditer(text))
-    return max(itertools.accumulate(steps), default=0)
-
-
 class Turner:
     """Turns a line, term by term."""
 
@@ -128,7 +122,9 @@ class Turner:
     def line(self, text):
         """A line of one term, which may open a block."""
         opens = " {" if text.endswith(" {") else ""
-        found = terms_in(WORD.split(text.removesuffix(opens))) if depth_of(text) <= DEEPEST else []
+        steps = ({"(": 1, "{": 1, ")": -1, "}": -1}.get(found[0], 0) for found in BRACKET.finditer(text))
+        is_deep = max(itertools.accumulate(steps), default=0) > DEEPEST
+        found = [] if is_deep else terms_in(WORD.split(text.removesuffix(opens)))
         if len(found) != 1 or spelled(found[0]) + opens != text:
             raise Misread
         return self.term(found[0], OUTSIDE) + opens

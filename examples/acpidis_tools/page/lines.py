@@ -9,8 +9,7 @@ from html import escape
 from acpidis_tools.errors import Fault, name_in, raw_bytes
 from acpidis_tools.listing import Block, Line, path_text
 from acpidis_tools.names import Meaning, Names, Sort, Uses, is_name
-from acpidis_tools.page.packing import BETWEEN, chunk_html
-from acpidis_tools.page.sheet import Sheet, classed, counted
+from acpidis_tools.page.sheet import BETWEEN, Sheet, chunk_html, classed, counted
 
 # A browser's tree of elements ends at 512 levels.
 DEEPEST_FOLD = 60
@@ -102,8 +101,8 @@ class BlockWriter:
             if folds_here(line) and len(folds) < deepest and line.end <= last:
                 folds.append(line.end)
                 written.append(self.head(line))
-                continue
-            written.append(self.line(line))
+            else:
+                written.append(self.line(line))
             if folds and folds[-1] == line.number:
                 folds.pop()
                 written.append("</details>\n")
@@ -112,8 +111,7 @@ class BlockWriter:
     def head(self, line: Line) -> str:
         text, mark = self.content(line)
         count = line.end - line.number + 1
-        height = f";--n:{count}" if count >= LONG_BLOCK else ""
-        fold = f"<details open style=--d:{line.depth + 1}{height}>"
+        fold = f"<details open style=--d:{line.depth + 1}{f';--n:{count}' * (count >= LONG_BLOCK)}>"
         return f"{fold}<summary id={line.number}{classed(mark)}>{text}</summary>\n"
 
     def line(self, line: Line) -> str:
@@ -194,11 +192,9 @@ def next_notes(names: Names, sheet: Sheet) -> dict[int, str]:
     for lines in names.declarations.values():
         if len(lines) > 1:
             for place, line in enumerate(lines, 1):
-                behind = lines[place % len(lines)]
-                text = f"{place:,} of {len(lines):,}"
-                start, end = ("<a", "</a>") if sheet.shows(behind.number) else ("<span", "</span>")
-                to = f" href=#{behind.number}" if sheet.shows(behind.number) else ""
-                notes[line.number] = f"{start} class=note{to}>{text}{end}"
+                behind = lines[place % len(lines)].number
+                tag, to = ("a", f" href=#{behind}") if sheet.shows(behind) else ("span", "")
+                notes[line.number] = f"<{tag} class=note{to}>{place:,} of {len(lines):,}</{tag}>"
     return notes
 
 

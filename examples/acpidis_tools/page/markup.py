@@ -13,27 +13,25 @@ from html import escape
 
 from acpidis_tools.comparison import differences
 from acpidis_tools.errors import raw_lines
-from acpidis_tools.listing import TEXT, Listing, path_text
+from acpidis_tools.listing import HEADER, TEXT, Dump, Listing, path_text
 from acpidis_tools.names import PREDEFINED
 from acpidis_tools.page.lines import blocks_html, uses_html
-from acpidis_tools.page.packing import index_html
-from acpidis_tools.page.sheet import Sheet, counted, link
-from acpidis_tools.page.tables import table_changes_html, tables_html
+from acpidis_tools.page.sheet import Sheet, classed, counted, index_html, link
 from acpidis_tools.page.tree import TreeWriter
 
 HERE = pathlib.Path(__file__).resolve().parent
 # Longer lists of a comparison are folded.
 MOST_OPEN = 20
+ADDRESS_OF_ENTRY = re.compile(rf"(  Entry [0-9A-F]+) ({TEXT})")
+HEADS = ("", "File", "Table", "Length", "Revision", "OEM", "Creator", "")
 
 
 def raw_list_html(sheet: Sheet) -> list[str]:
     raw = [line for line in raw_lines(sheet.listing) if sheet.shows(line.number)]
     if not raw:
         return []
-    items = [
-        f"<li><a href=#{line.number}>{path_text(line.method)}</a> {sheet.faults.get(line.number, '')}</li>\n"
-        for line in raw
-    ]
+    name = lambda line: f"<a href=#{line.number}>{path_text(line.method)}</a>"
+    items = [f"<li>{name(line)} {sheet.faults.get(line.number, '')}</li>\n" for line in raw]
     head = "1 body is raw" if len(raw) == 1 else f"{len(raw):,} bodies are raw"
     return [f"<section id=raw><details><summary>{head}</summary><ul>\n", *items, "</ul></details></section>\n"]
 
@@ -55,6 +53,62 @@ def undeclared_html(sheet: Sheet) -> list[str]:
     return written + ["<section id=strays><h2>Names that nothing declares</h2>\n", *strays, end] if strays else written
 
 
+def dump_cells(dump: Dump) -> list[str]:
+    form = HEADER.fullmatch(dump.text)
+    if not form:
+        return [dump.text]
+    revision = form["before"] or form["behind"]
+    texts = [form["length"], revision, form["oems"], form["creators"] or form["leads"], form["rest"].strip()]
+    return [dump.file[1:-1], form["signature"] or "RSD PTR ", *(text or "" for text in texts)]
+
+
+def tables_html(sheet: Sheet) -> list[str]:
+    """The dumps as rows of a table, each with the lines below its own in another one."""
+    files = {dump.file: dump.number for dump in sheet.listing.dumps}
+    blocks = {block.file: block.lines[0].number for block in sheet.listing.blocks if sheet.shows(block.lines[0].number)}
+    different = sheet.comparison.lines if sheet.comparison else set()
+    mark = lambda number: classed("differs" if number in different else "")
+
+    def note(number: int, text: str) -> str:
+        form, shown = ADDRESS_OF_ENTRY.fullmatch(text), escape(text)
+        if form and form[2] in files:
+            shown = f"{escape(form[1])} <a href=#{files[form[2]]}>{escape(form[2])}</a>"
+        return f"<p id={number}{mark(number)}>{shown}</p>"
+
+    def rows(dump: Dump) -> str:
+        cells = [escape(cell) for cell in dump_cells(dump)]
+        if dump.file in blocks:
+            cells[0] = f"<a href=#{blocks[dump.file]}>{cells[0]}</a>"
+        columns = "".join(f"<td>{cell}</td>" for cell in cells)
+        html = f"<tr id={dump.number}{mark(dump.number)}><th>{dump.number}</th>{columns}</tr>\n"
+        if dump.notes:
+            is_open = " open" if any(number in different for number, _ in dump.notes) else ""
+            head = f"<details{is_open}><summary>{counted(len(dump.notes), 'line')}</summary>"
+            notes = "".join(note(number, text) for number, text in dump.notes)
+            html += f"<tr class=more><td></td><td colspan=7>{head}{notes}</details></td></tr>\n"
+        return html
+
+    heads = "".join(f"<th>{head}</th>" for head in HEADS)
+    head = f"<section id=tables><h2>Tables</h2>\n<div class=wide><table>\n<tr>{heads}</tr>\n"
+    return [head, *map(rows, sheet.listing.dumps), "</table></div>\n</section>\n"]
+
+
+def table_changes_html(sheet: Sheet) -> list[str]:
+    """The tables whose lines differ, with those that the other listing alone has."""
+    tables = sheet.comparison.tables if sheet.comparison else {}
+    if not tables:
+        return []
+    numbers = {dump.file: dump.number for dump in sheet.listing.dumps}
+    items = []
+    for file, lines in tables.items():
+        name = escape(file[1:-1])
+        head = f"<a href=#{numbers[file]}>{name}</a>" if file in numbers else f"{name}, here not"
+        shown = f"<pre>{escape(chr(10).join(lines))}</pre>" if lines else " isn't there" if lines is None else " lacks lines"
+        items.append(f"<li class=changed>{head}{shown}</li>\n")
+    head = f"<details open><summary>{counted(len(items), 'table')} that it has otherwise</summary><ul>\n"
+    return [head, *items, "</ul></details>\n"]
+
+
 def comparison_html(sheet: Sheet) -> list[str]:
     found = sheet.comparison
     if not found:
@@ -72,8 +126,7 @@ def comparison_html(sheet: Sheet) -> list[str]:
     for path, text in found.changes.items():
         # Lines that this listing alone has are struck out, those of the other one stand where it has them.
         lines = differences(found.here[path], text)
-        lines = (f"<{mark}>{escape(line)}</{mark}>" if mark else escape(line) for mark, line in lines)
-        shown = "\n".join(lines)
+        shown = "\n".join(f"<{mark}>{escape(line)}</{mark}>" if mark else escape(line) for mark, line in lines)
         head = f"<details id=c{names[path].number}><summary>{links[path]}</summary>"
         changes.append(f"<li class=changed>{head}<pre>{shown}</pre></details></li>\n")
     written = [f"<section id=comparison><h2>Beside {escape(found.other)}</h2>\n", *table_changes_html(sheet)]
@@ -108,12 +161,11 @@ def head_html(sheet: Sheet, style: str, script: str) -> str:
 
 def navigation_html(sheet: Sheet, tree: TreeWriter) -> list[str]:
     listing = sheet.listing
-    kinds = " ".join(
-        f"<button type=button value={kind}>{kind} <small>{count:,}</small></button>" for kind, count in tree.counts.most_common()
-    )
+    button = "<button type=button value={0}>{0} <small>{1:,}</small></button>"
+    kinds = " ".join(button.format(*it) for it in tree.counts.most_common())
     counts = {"line": listing.line_count, "table": len(listing.dumps), "path": len(listing.rows)}
     facts = ", ".join(counted(count, word) for word, count in counts.items())
-    part = f"<p>a part of {facts}</p>" if sheet.shown is not None else f"<p>{facts}</p>"
+    part = f"<p>{'a part of ' * (sheet.shown is not None)}{facts}</p>"
     oem = title_of(listing)
     shown_oem = f"<p class=oem>{escape(oem)}</p>" if oem and sheet.name else ""
     return [
@@ -129,14 +181,9 @@ def navigation_html(sheet: Sheet, tree: TreeWriter) -> list[str]:
 def page(sheet: Sheet) -> str:
     style, script = ((HERE / name).read_text() for name in ("page.css", "page.js"))
     tree = TreeWriter(sheet)
-    return "".join([
-        head_html(sheet, style, script),
-        *navigation_html(sheet, tree),
-        "<main id=main tabindex=-1>\n<p id=where hidden></p>\n",
-        *comparison_html(sheet),
-        *raw_list_html(sheet),
-        *tables_html(sheet),
-        *blocks_html(sheet),
-        *undeclared_html(sheet),
-        f"</main>\n{index_html(tree.index())}<script>{script}</script>\n</body>\n</html>\n",
-    ])
+    parts = [head_html(sheet, style, script), *navigation_html(sheet, tree)]
+    parts.append("<main id=main tabindex=-1>\n<p id=where hidden></p>\n")
+    for part in (comparison_html, raw_list_html, tables_html, blocks_html, undeclared_html):
+        parts += part(sheet)
+    parts.append(f"</main>\n{index_html(tree.index())}<script>{script}</script>\n</body>\n</html>\n")
+    return "".join(parts)

@@ -1,8 +1,12 @@
-"""What a page is made of, and the small pieces of HTML that all of its parts are written with."""
+"""What a page is made of, and the small pieces of HTML that all of its parts are written with; and parts of a page
+that are packed, since they are too many to be laid out at once: a browser unpacks those that come into sight."""
 
 from __future__ import annotations
 
+import base64
+import zlib
 from dataclasses import dataclass, field
+from html import escape
 from typing import Optional
 
 from acpidis_tools.comparison import Comparison
@@ -13,6 +17,8 @@ from acpidis_tools.names import PREDEFINED, Meaning, Names, Sort
 
 # The page of a longer listing has its lines packed.
 LONG_TEXT = 200_000
+# What stands between the lines of a packed part and their uses.
+BETWEEN = "\n<!-- uses -->\n"
 
 
 @dataclass
@@ -74,8 +80,7 @@ class Sheet:
             for line in block.lines:
                 while opened and line.number > opened[-1].end:
                     opened.pop()
-                is_there = line.number <= kept_to or is_at(line, self.names.meanings[line.number], wanted)
-                if is_there:
+                if line.number <= kept_to or is_at(line, self.names.meanings[line.number], wanted):
                     kept_to = max(kept_to, line.end)
                     found.add(line.number)
                     found.update(number for head in opened for number in (head.number, head.end))
@@ -86,12 +91,8 @@ class Sheet:
 
 def is_at(line: Line, meanings: list[Meaning], wanted: Path) -> bool:
     """Whether a line declares a path at or below the wanted one, or opens it."""
-    for meaning in meanings:
-        is_declared = meaning.sort in (Sort.DECLARES, Sort.AGAIN)
-        opens = line.term == "Scope" and meaning.sort is Sort.LEADS
-        if (is_declared or opens) and meaning.path is not None and meaning.path[:len(wanted)] == wanted:
-            return True
-    return False
+    sorts = [Sort.DECLARES, Sort.AGAIN] + [Sort.LEADS] * (line.term == "Scope")
+    return any(it.sort in sorts and it.path is not None and it.path[:len(wanted)] == wanted for it in meanings)
 
 
 def link(path: Path, text: str = "") -> str:
@@ -99,11 +100,34 @@ def link(path: Path, text: str = "") -> str:
 
 
 def classed(*words: str) -> str:
-    words = tuple(filter(None, words))
-    if not words:
-        return ""
-    return f' class="{" ".join(words)}"' if len(words) > 1 else f" class={words[0]}"
+    shown = " ".join(filter(None, words))
+    return f' class="{shown}"' if " " in shown else f" class={shown}" if shown else ""
 
 
 def counted(count: int, word: str) -> str:
     return f"{count:,} {word}{'' if count == 1 else 's'}"
+
+
+def packed(html: str) -> str:
+    return base64.b64encode(zlib.compress(html.encode(), 6)).decode()
+
+
+def unpacked(text: str) -> str:
+    return zlib.decompress(base64.b64decode(text)).decode()
+
+
+def chunk_html(first: int, count: int, texts: list[str], html: str) -> str:
+    """Some lines as plain text, which can be found and printed, and what they become when they are seen."""
+    head = f'<pre class=chunk style=--n:{len(texts)} data-line={first} data-count={count} data-packed="{packed(html)}">'
+    text = "\n".join(texts)
+    return f"{head}{escape(text)}</pre>\n"
+
+
+def branch_html(html: str) -> str:
+    """A part of the tree, which is unpacked when what it is in is opened."""
+    return f'<div class=branch data-packed="{packed(html)}"></div>\n'
+
+
+def index_html(lines: list[str]) -> str:
+    """What is looked through by the search."""
+    return f'<script type="text/plain" id=index>{packed(chr(10).join(lines))}</script>\n'

@@ -10,8 +10,7 @@ from html import escape
 from acpidis_tools.errors import raw_lines
 from acpidis_tools.listing import Path, Row, path_of, path_text
 from acpidis_tools.names import PREDEFINED
-from acpidis_tools.page.packing import branch_html
-from acpidis_tools.page.sheet import Sheet, classed, link
+from acpidis_tools.page.sheet import Sheet, branch_html, classed, link
 from acpidis_tools.standard import DEVICE_NAMES
 
 DEEPEST_FOLD = 60
@@ -39,15 +38,6 @@ def nodes_of(rows: Iterable[Row], added: Iterable[Path]) -> dict[Path, Node]:
             above = nodes.setdefault(path[:length], Node())
             above.below, above.has_children = above.below + 1, True
     return dict(sorted(nodes.items()))
-
-
-def kind_html(kind: str, sheet: Sheet) -> str:
-    """A kind, and what an Alias stands for as a link."""
-    word, target = kind.partition(" \\")[::2]
-    if not target:
-        return kind
-    path = path_of(f"\\{target}")
-    return f"{word} {link(path)}" if sheet.has_path(path) else f"{word} {path_text(path)}"
 
 
 class TreeWriter:
@@ -98,7 +88,11 @@ class TreeWriter:
 
     def node_html(self, path: Path, node: Node) -> str:
         mark = self.sheet.mark(path) or ("raw" if path in self.raw else "")
-        kind = f" {kind_html(node.kind, self.sheet)}" if node.kind else ""
+        # A kind, and what an Alias stands for as a link
+        word, _, target = node.kind.partition(" \\")
+        aim = path_of(f"\\{target}")
+        shown = f"{word} {link(aim)}" if target and self.sheet.has_path(aim) else node.kind
+        kind = f" {shown}" if node.kind else ""
         marks = f" <small>{node.marks}</small>" if node.marks else ""
         below = f" <small>{node.below:,}</small>" if node.below else ""
         ids = " ".join(dict.fromkeys(self.identifiers.get(path, ())))
