@@ -36,7 +36,7 @@ import sets
 LIBRARY, CRATE = TOP / "library", TOP / "crates/acpidis_c"
 sys.path.insert(0, str(LIBRARY))
 STRICT = ("-Wall", "-Wextra", "-Werror", "-D_POSIX_C_SOURCE=200809L", f"-I{LIBRARY}")
-COUNTED = tuple(f"-Wl,--wrap={name}" for name in ("malloc", "calloc", "realloc", "free"))
+COUNTED = tuple(f"-Wl,--wrap={name}" for name in ("malloc", "calloc", "realloc", "posix_memalign", "free"))
 SANITIZED = ("-fsanitize=address,undefined", "-fno-omit-frame-pointer", "-g")
 # The edge with a block of malloc's for each that is asked for, so that these tools see all of them.
 ALONE = ("-DACPIDIS_PIECES=0", LIBRARY / "acpidis.c", LIBRARY / "heap.c", "-Wl,--allow-multiple-definition")
@@ -257,11 +257,15 @@ def try_cost(checks, room, lib, program):
 
 
 def show_cost(checks, room, lib, program, folders):
-    """Says what calls take beside the program: the best of some runs, the two in turn."""
+    """Says what calls take beside the program: the best of some runs, the two in turn, and the one in the middle."""
+    unseen = {"stdout": subprocess.DEVNULL, "stderr": subprocess.DEVNULL, "check": False}
     for folder in folders:
         ways = both_ways(checks, room, lib, program, folder)
-        theirs, ours = map(min, zip(*([timed(run, *words)[1] for words in ways] for _ in range(RUNS))))
-        print(f"{folder}: the program {theirs * 1000:.1f} ms, the library {ours * 1000:.1f} ms, {ours / theirs:.3f}")
+        times = zip(*([timed(subprocess.run, words, **unseen)[1] for words in ways] for _ in range(RUNS)))
+        theirs, ours = map(sorted, times)
+        for what, at in ("best", 0), ("middle", RUNS // 2):
+            ratio = ours[at] / theirs[at]
+            print(f"{folder}, {what}: program {theirs[at] * 1000:.1f} ms, library {ours[at] * 1000:.1f} ms, {ratio:.3f}")
     acpidis = importlib.import_module("acpidis")
     files = {"dsdt.dat": (DEMO / "dsdt.dat").read_bytes()}
     begin = time.process_time()
