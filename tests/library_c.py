@@ -81,24 +81,26 @@ def link(room):
 
 
 def try_edge(checks, room, lib, program):
-    """The calls of library_c.c."""
-    source, text, dump = TOP / "tests/library_c.c", room / "text", DEMO / "dsdt.dat"
-    text.write_bytes(outcome(program, written(room / "one", {"dump": dump.read_bytes()}))[1])
+    """The calls of library_c.c, over a dump of a few bytes, and over one for which a set takes several large blocks."""
+    source, few = TOP / "tests/library_c.c", (DEMO / "dsdt.dat").read_bytes()
+    dumps = {len(dump): written(room / f"one_{len(dump)}", {"dump": dump}) for dump in (few, sets.devices(300))}
     trials = {
-        "plain": ((), (), ()),
-        "plain, without pieces": (ALONE, (), ("short",)),
-        "valgrind": (("-g",), VALGRIND, ("short",)),
-        "valgrind, without pieces": (("-g", *ALONE), VALGRIND, ("short",)),
-        "sanitized, without pieces": ((*SANITIZED, *ALONE), (), ("short",)),
+        "plain": ((), (), (), dumps),
+        "plain, without pieces": (ALONE, (), ("short",), dumps),
+        "valgrind": (("-g",), VALGRIND, ("short",), dumps),
+        "valgrind, without pieces": (("-g", *ALONE), VALGRIND, ("short",), (len(few),)),
+        "sanitized, without pieces": ((*SANITIZED, *ALONE), (), ("short",), dumps),
     }
-    for name, (flags, before, after) in trials.items():
+    for name, (flags, before, after, sizes) in trials.items():
         made = room / f"calls_{len(list(room.glob('calls_*')))}"
         words = ("gcc", "-std=gnu11", "-O1", *STRICT, *flags, source, *COUNTED, lib / "libacpidis.a", "-lpthread")
-        if compiled(checks, *words, "-o", made):
-            ran = run(*before, made, dump, text, *after)
+        for size in sizes if compiled(checks, *words, "-o", made) else ():
+            text = room / f"text_{size}"
+            text.write_bytes(outcome(program, dumps[size])[1])
+            ran = run(*before, made, dumps[size] / "dump", text, *after)
             last = ran.stdout.decode().splitlines()[-1:] or [""]
             good = ran.returncode == 0 and last[0].endswith(" passed, 0 failed")
-            checks.is_so(f"the calls, {name}: {ran.stdout.decode()[-2000:]}{ran.stderr.decode()[-4000:]}", good)
+            checks.is_so(f"the calls, {name}, {size} bytes: {ran.stdout.decode()[-2000:]}{ran.stderr.decode()[-4000:]}", good)
     compiled(checks, "clang", "-std=gnu11", *STRICT, "-c", source, "-o", room / "calls.o")
     for part in "acpidis.c", "heap.c":
         compiled(checks, "clang", "-std=c99", *STRICT, "-fPIC", "-c", LIBRARY / part, "-o", room / "edge.o")
