@@ -3,12 +3,14 @@
  * A run takes some hundred thousand small blocks and lets them go together. Of malloc each costs more to let go than to
  * take, so small ones are cut here of large ones. A piece that is let go serves the next one of its size; a large block is
  * let go at the end of the call that leaves no piece of it taken. Where malloc refuses, so do these. */
+#define _DEFAULT_SOURCE /* madvise */
 #include "heap.h"
 
 #include <stdbool.h>
 #include <stdint.h>
 #include <stdlib.h>
 #include <string.h>
+#include <sys/mman.h>
 
 /* Whether there is memory, and where; some other place if there is none. */
 struct tried {
@@ -28,7 +30,7 @@ struct large {
 };
 
 /* Blocks begin at multiples of UNIT, as malloc's. */
-enum { UNIT = 16, LEAST = 1 << 14, MOST = 1 << 20 };
+enum { UNIT = 16, LEAST = 1 << 14, MOST = 1 << 21 };
 
 static __thread struct acpidis_heap *heap __attribute__((tls_model("initial-exec")));
 
@@ -63,10 +65,24 @@ void acpidis_heap_leave(void) {
     heap = NULL;
 }
 
+/* A large block. One of the most bytes is one page where the system has pages of that size, which it gives sooner than 512
+ * small ones. */
+static void *large_block(size_t size) {
+    void *block;
+    if (size < MOST)
+        return malloc(size);
+    if (posix_memalign(&block, MOST, size) != 0)
+        return NULL;
+#ifdef MADV_HUGEPAGE
+    (void)madvise(block, size, MADV_HUGEPAGE);
+#endif
+    return block;
+}
+
 /* Takes another large block, each time twice as large as before. */
 static bool grow(void) {
     size_t size = heap->grown == 0 ? LEAST : heap->grown < MOST ? 2 * heap->grown : MOST;
-    struct large *large = malloc(size);
+    struct large *large = large_block(size);
     if (large == NULL)
         return false;
     large->next = heap->newest;

@@ -11,6 +11,7 @@
 #define _GNU_SOURCE
 #include <acpidis.h>
 
+#include <errno.h>
 #include <pthread.h>
 #include <stdio.h>
 #include <stdlib.h>
@@ -34,6 +35,7 @@ static __thread int within;
 void *__real_malloc(size_t size);
 void *__real_calloc(size_t count, size_t size);
 void *__real_realloc(void *block, size_t size);
+int __real_posix_memalign(void **block, size_t align, size_t size);
 void __real_free(void *block);
 
 static int is_refused(void) {
@@ -59,6 +61,13 @@ void *__wrap_realloc(void *block, size_t size) {
     if (within && block == NULL && grown != NULL)
         blocks++;
     return grown;
+}
+
+int __wrap_posix_memalign(void **block, size_t align, size_t size) {
+    int code = is_refused() ? ENOMEM : __real_posix_memalign(block, align, size);
+    if (within && code == 0)
+        blocks++;
+    return code;
 }
 
 void __wrap_free(void *block) {

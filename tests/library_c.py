@@ -35,7 +35,7 @@ from running import Options
 LIBRARY, CRATE = TOP / "library", TOP / "crates/acpidis_c"
 sys.path.insert(0, str(LIBRARY))
 STRICT = ("-Wall", "-Wextra", "-Werror", "-D_POSIX_C_SOURCE=200809L", f"-I{LIBRARY}")
-COUNTED = tuple(f"-Wl,--wrap={name}" for name in ("malloc", "calloc", "realloc", "free"))
+COUNTED = tuple(f"-Wl,--wrap={name}" for name in ("malloc", "calloc", "realloc", "posix_memalign", "free"))
 SANITIZED = ("-fsanitize=address,undefined", "-fno-omit-frame-pointer", "-g")
 # The edge with a block of malloc's for each that is asked for, so that these tools see all of them.
 ALONE = ("-DACPIDIS_PIECES=0", LIBRARY / "acpidis.c", LIBRARY / "heap.c", "-Wl,--allow-multiple-definition")
@@ -80,24 +80,26 @@ def link(room):
 
 
 def try_edge(checks, room, lib, program):
-    """The calls of library_c.c."""
-    source, text, dump = TOP / "tests/library_c.c", room / "text", DEMO / "dsdt.dat"
-    text.write_bytes(outcome(program, written(room / "one", {"dump": dump.read_bytes()}))[1])
+    """The calls of library_c.c, over a dump of a few bytes, and over one for which a set takes several large blocks."""
+    source, few = TOP / "tests/library_c.c", (DEMO / "dsdt.dat").read_bytes()
+    dumps = {len(dump): written(room / f"one_{len(dump)}", {"dump": dump}) for dump in (few, sets.devices(300))}
     trials = {
-        "plain": ((), (), ()),
-        "plain, without pieces": (ALONE, (), ("short",)),
-        "valgrind": (("-g",), VALGRIND, ("short",)),
-        "valgrind, without pieces": (("-g", *ALONE), VALGRIND, ("short",)),
-        "sanitized, without pieces": ((*SANITIZED, *ALONE), (), ("short",)),
+        "plain": ((), (), (), dumps),
+        "plain, without pieces": (ALONE, (), ("short",), dumps),
+        "valgrind": (("-g",), VALGRIND, ("short",), dumps),
+        "valgrind, without pieces": (("-g", *ALONE), VALGRIND, ("short",), (len(few),)),
+        "sanitized, without pieces": ((*SANITIZED, *ALONE), (), ("short",), dumps),
     }
-    for name, (flags, before, after) in trials.items():
+    for name, (flags, before, after, sizes) in trials.items():
         made = room / f"calls_{len(list(room.glob('calls_*')))}"
         words = ("gcc", "-std=gnu11", "-O1", *STRICT, *flags, source, *COUNTED, lib / "libacpidis.a", "-lpthread")
-        if compiled(checks, *words, "-o", made):
-            ran = run(*before, made, dump, text, *after)
+        for size in sizes if compiled(checks, *words, "-o", made) else ():
+            text = room / f"text_{size}"
+            text.write_bytes(outcome(program, dumps[size])[1])
+            ran = run(*before, made, dumps[size] / "dump", text, *after)
             last = ran.stdout.decode().splitlines()[-1:] or [""]
             good = ran.returncode == 0 and last[0].endswith(" passed, 0 failed")
-            checks.is_so(f"the calls, {name}: {ran.stdout.decode()[-2000:]}{ran.stderr.decode()[-4000:]}", good)
+            checks.is_so(f"the calls, {name}, {size} bytes: {ran.stdout.decode()[-2000:]}{ran.stderr.decode()[-4000:]}", good)
     compiled(checks, "clang", "-std=gnu11", *STRICT, "-c", source, "-o", room / "calls.o")
     for part in "acpidis.c", "heap.c":
         compiled(checks, "clang", "-std=c99", *STRICT, "-fPIC", "-c", LIBRARY / part, "-o", room / "edge.o")
@@ -259,11 +261,15 @@ def try_cost(checks, room, lib, program):
 
 
 def show_cost(checks, room, lib, program, folders):
-    """Says what calls take beside the program: the best of some runs, the two in turn."""
+    """Says what calls take beside the program: the best of some runs, the two in turn, and the one in the middle."""
+    unseen = {"stdout": subprocess.DEVNULL, "stderr": subprocess.DEVNULL, "check": False}
     for folder in folders:
         ways = both_ways(checks, room, lib, program, folder)
-        theirs, ours = map(min, zip(*([timed(run, *words)[1] for words in ways] for _ in range(RUNS))))
-        print(f"{folder}: the program {theirs * 1000:.1f} ms, the library {ours * 1000:.1f} ms, {ours / theirs:.3f}")
+        times = zip(*([timed(subprocess.run, words, **unseen)[1] for words in ways] for _ in range(RUNS)))
+        theirs, ours = map(sorted, times)
+        for what, at in ("best", 0), ("middle", RUNS // 2):
+            ratio = ours[at] / theirs[at]
+            print(f"{folder}, {what}: program {theirs[at] * 1000:.1f} ms, library {ours[at] * 1000:.1f} ms, {ratio:.3f}")
     acpidis = importlib.import_module("acpidis")
     files = {"dsdt.dat": (DEMO / "dsdt.dat").read_bytes()}
     begin = time.process_time()

@@ -8,13 +8,14 @@
  */
 #include "heap.h"
 
+#include <errno.h>
 #include <stdbool.h>
 #include <stdint.h>
 #include <stdio.h>
 #include <stdlib.h>
 #include <string.h>
 
-enum { BLOCKS = 700, HEAPS = 2, MOST_BYTES = 3000 };
+enum { BLOCKS = 700, HEAPS = 2, MOST_BYTES = 3000, PIECES = 60000 };
 
 struct tried {
     bool is_there;
@@ -32,6 +33,7 @@ static uint32_t seed;
 void *__real_malloc(size_t size);
 void *__real_calloc(size_t count, size_t size);
 void *__real_realloc(void *block, size_t size);
+int __real_posix_memalign(void **block, size_t align, size_t size);
 void __real_free(void *block);
 
 void *__wrap_malloc(size_t size) {
@@ -48,6 +50,12 @@ void *__wrap_calloc(size_t count, size_t size) {
 
 void *__wrap_realloc(void *block, size_t size) {
     return calls++ == refused_call ? NULL : __real_realloc(block, size);
+}
+
+int __wrap_posix_memalign(void **block, size_t align, size_t size) {
+    int code = calls++ == refused_call ? ENOMEM : __real_posix_memalign(block, align, size);
+    blocks += code == 0;
+    return code;
 }
 
 void __wrap_free(void *block) {
@@ -160,20 +168,20 @@ static bool steps(long count) {
 static void try_rounds(void) {
     struct acpidis_heap heap = { 0 };
     long round, number, most = 0;
-    static void *taken[5000];
-    for (round = 0; round < 50; round++) {
+    static void *taken[PIECES];
+    for (round = 0; round < 10; round++) {
         acpidis_heap_enter(&heap);
-        for (number = 0; number < 5000; number++)
+        for (number = 0; number < PIECES; number++)
             taken[number] = rattle_alloc(100, 1).at;
         if (round == 0)
             most = blocks;
-        for (number = 0; number < 5000; number++)
+        for (number = 0; number < PIECES; number++)
             rattle_dealloc(taken[number]);
-        for (number = 0; number < 5000; number++)
+        for (number = 0; number < PIECES; number++)
             taken[number] = rattle_alloc(100, 1).at;
         if (blocks > most)
             most = -1;
-        for (number = 0; number < 5000; number++)
+        for (number = 0; number < PIECES; number++)
             rattle_dealloc(taken[number]);
         acpidis_heap_leave();
         if (blocks != 0 || heap.newest != NULL)
