@@ -212,6 +212,11 @@ def blocks(count, levels):
     return around(levels, block, named(count))
 
 
+def maybe_aliases(count):
+    """Aliases of a method of which one stands at most, as each is in an If, and as many calls."""
+    return method(LEAF, 1, b"") + block(alias(NEAR)) * count + main_method((NEAR + b"\x01") * count)
+
+
 def names_outside(count, depth):
     """A name at the root, as so many terms of a deep scope."""
     return LEAF_NAME + within(depth, LEAF * count)
@@ -417,6 +422,11 @@ SHAPES = (
         "maybes", 100_000, "names", 500,
         lambda count, depth: LEAF_NAME
         + around(depth, lambda code: device(block(LEAF_NAME) + code, NEAR), main_method(LEAF * count)), any_run=True,
+    ),
+    one("maybe-aliases", 8_000, "Aliases", maybe_aliases, any_run=True, is_square=True),
+    one(
+        "maybe-aliases-deep", 1_000, "Aliases", lambda count: within(10_000, maybe_aliases(count)), any_run=True,
+        is_square=True,
     ),
     one("names-outside", 8_000, "names", lambda count: names_outside(count, DEEPEST), any_run=True),
     # Regions in a deep scope, whose offset and length are a name at the root
