@@ -103,9 +103,6 @@ def check_set(checks: Tally, what: str, folder: pathlib.Path, options: Options, 
         checks.is_same(f"the rows of {name} of {what}", [row[0] for row in found], list(range(1, len(found) + 1)))
 
 
-# ---- the rest, as it is run
-
-
 def run(*words: object) -> subprocess.CompletedProcess:
     return run_script("facts.py", *words)
 

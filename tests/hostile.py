@@ -16,7 +16,7 @@ import re
 import resource
 import subprocess
 
-from tally import TOP, Tally, asked, module_of, on_full_disk, run_script, timed, written
+from tally import TOP, Tally, asked, executable, module_of, on_full_disk, run_script, timed, written
 from acpidis_tools.errors import read_errors
 from acpidis_tools.listing import NoListing
 from acpidis_tools.page.markup import page
@@ -109,9 +109,8 @@ def run(script: str, *words: object, printed: int = subprocess.DEVNULL, **variab
 
 
 def check_texts(checks: Tally, room: pathlib.Path) -> None:
-    file, fake = room / "text", room / "acpidis"
-    fake.write_text(f"#!/bin/sh\nexec cat '{file}'\n")
-    fake.chmod(0o755)
+    file = room / "text"
+    fake = executable(room / "acpidis", f"#!/bin/sh\nexec cat '{file}'\n")
     spoken = set()
     for what, text in TEXTS.items():
         file.write_text(text)

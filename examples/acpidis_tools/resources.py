@@ -14,7 +14,8 @@ END = 0x0F
 
 # The fields of a descriptor, each with what it is where nothing says it
 FIELDS = {
-    "first": None, "last": None, "length": None, "digits": 8, "lines": (), "words": (), "source": "", "at": 0, "size": 0,
+    "first": None, "last": None, "length": None, "digits": 8, "lines": (), "words": (), "source": "", "at": 0,
+    "size": 0,
 }  # fmt: skip
 
 

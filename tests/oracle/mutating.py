@@ -232,9 +232,6 @@ def name_end(code, at):
     return at
 
 
-# ---- whole sets
-
-
 def is_block(data):
     return data.startswith(BLOCKS) and len(data) >= HEADER_LENGTH
 
