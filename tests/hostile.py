@@ -167,12 +167,10 @@ def mutated(lines: list, dice: random.Random) -> str:
         elif kind == 3:
             words[dice.randrange(len(words))] = dice.choice(re.split(r"(\W)", dice.choice(lines)))
             lines[at] = "".join(words)
-        elif kind == 4:
-            place = dice.randrange(len(lines[at]) + 1)
-            lines[at] = lines[at][:place] + dice.choice('(){}\\^",.0AZ_a ') + lines[at][place:]
         else:
             place = dice.randrange(len(lines[at]) + 1)
-            lines[at] = lines[at][:place] + lines[at][place + dice.randint(1, 4):]
+            new, gone = (dice.choice('(){}\\^",.0AZ_a '), 0) if kind == 4 else ("", dice.randint(1, 4))
+            lines[at] = lines[at][:place] + new + lines[at][place + gone:]
         if not lines:
             return ""
     return "\n".join(lines) + "\n"
