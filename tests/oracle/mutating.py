@@ -124,11 +124,6 @@ class Mutator:
         terms = layout.in_bodies if self.chance.random() < 0.7 else layout.terms
         return self.chance.choice(terms or layout.terms or [Span(0, 0)])
 
-    def gap(self, layout):
-        """The empty span before or behind a term."""
-        at = self.chance.choice(self.span(layout))
-        return Span(at, at)
-
     def flip(self, code, layout):
         start, end = self.span(layout)
         if start == end:
@@ -167,7 +162,8 @@ class Mutator:
         start, end = self.span(layout)
         likely = bytes(self.chance.choice(LIKELY_BYTES) for _ in range(self.chance.choice((1, 1, 2, 5))))
         new = self.chance.choice((code[start:end], self.chance.choice(self.others or [b"\xa3"]), likely))
-        return replaced(code, layout, self.gap(layout), new)
+        at = self.chance.choice(self.span(layout))
+        return replaced(code, layout, Span(at, at), new)
 
     def wrap(self, code, layout):
         """A term within Ifs, or within LNots."""
