@@ -168,9 +168,6 @@ def section(all_figures, asked, loads, stolen):
     return text + "\n"
 
 
-# ---- the picture
-
-
 def across(seconds):
     """How far to the right so many seconds stand."""
     share = math.log(max(seconds, LEAST) / LEAST) / math.log(MOST / LEAST)

@@ -1,6 +1,6 @@
 """The sets of bench/hostile.py: a DSDT of at most 16,777,216 bytes each, or many files."""
+from collections import namedtuple
 from functools import partial, reduce
-from typing import Callable, NamedTuple
 
 from measuring import Sparse
 from made_aml import each, mixed, packed, segment, table, tables
@@ -18,19 +18,10 @@ DEEP = 503 * SEGMENTS
 DENSE = bytes.fromhex("a472606100")  # Return (Add (Local0, Local1, ))
 
 
-class Shape(NamedTuple):
+class Shape(namedtuple("Shape", "name size unit make is_square given any_run large", defaults=[False] * 4)):
     """A set by its size, which is doubled; `is_square` where twice the size may take four times as long, `given` where
     its runs have the option `--externals` with the set's file of that name, `any_run` where they have that option,
     `large` where it takes 9 GB of memory."""
-
-    name: str
-    size: int
-    unit: str
-    make: Callable
-    is_square: bool = False
-    given: bool = False
-    any_run: bool = False
-    large: bool = False
 
     def options(self, folder):
         return [OPTION, str(folder / GIVEN)] if self.given else [ANY_RUN] if self.any_run else []
@@ -476,5 +467,5 @@ SHAPES = (
     ),
     Shape("listed", 2_000_000, "entries", listed),
     # An RSDT that lists a file again and again, each byte of whose long name is four in the text
-    Shape("named-entries", 262_144, "entries", lambda size: led(["rsdp.dat", "rsdt.dat", *LED, LONG_NAME], 4, size - 2)),
+    Shape("named-entries", 262_144, "entries", lambda it: led(["rsdp.dat", "rsdt.dat", *LED, LONG_NAME], 4, it - 2)),
 )

@@ -52,9 +52,6 @@ WAITING = 4
 BLOCKS = re.compile(rb"^Namespace [0-9]", re.MULTILINE)
 
 
-# ---- one machine
-
-
 class Machine:
     """A machine: its name, its listing, its standard error and the folder of its dumps."""
 
@@ -143,9 +140,6 @@ def facts_of(text: bytes, errors: bytes) -> tuple[str, dict[str, list[list]]]:
     return "", dict(rows)
 
 
-# ---- where facts go
-
-
 class Database:
     """An SQLite file, which appears when it is whole."""
 
@@ -208,9 +202,6 @@ class Facts:
         self.bases["record"] += len(machine.records)
         self.lacking += bool(fault)
         return fault
-
-
-# ---- all machines
 
 
 def machines_of(asked: argparse.Namespace) -> Iterator[Machine]:

@@ -75,9 +75,6 @@ def refusal_of(program, options, folder):
     return None
 
 
-# ---- the tables
-
-
 def file_names(folder):
     with os.scandir(folder) as entries:
         return sorted(entry.name for entry in entries if entry.is_file(follow_symlinks=False) and entry.name != "tables.map")
@@ -146,9 +143,6 @@ class Set:
 
     def place(self, table, at):
         return f"{shown_name(self.order[table])}, offset {at}, byte {at + HEADER} of the file"
-
-
-# ---- what is said
 
 
 def path_of(node):

@@ -71,12 +71,6 @@ def compiled(path):
     return made.read_bytes() if made.exists() else None
 
 
-def is_again(dump, made):
-    """Whether these are the bytes of a dump, but for its sum and its creator."""
-    dump = dump[: int.from_bytes(dump[4:8], "little")]
-    return made is not None and (made[:9], made[10:28], made[HEADER:]) == (dump[:9], dump[10:28], dump[HEADER:])
-
-
 def check_set(checks, name, dumps, options):
     """Each block of a set's listing of which nothing is told compiles to its dump."""
     outcome = run(dumps, options)
@@ -94,7 +88,10 @@ def check_set(checks, name, dumps, options):
         checks.told += file in told
         if IASL and file not in told:
             checks.same += 1
-            checks.is_so(f"{name}: {file} again", is_again(data[file], compiled(path)))
+            # It has the bytes of the dump, but for its sum and its creator.
+            made, dump = compiled(path) or b"", data[file][: int.from_bytes(data[file][4:8], "little")]
+            same = (made[:9], made[10:28], made[HEADER:]) == (dump[:9], dump[10:28], dump[HEADER:])
+            checks.is_so(f"{name}: {file} again", same)
 
 
 def plain_set(seed):

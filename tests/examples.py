@@ -14,7 +14,7 @@ import re
 import shlex
 import subprocess
 
-from tally import TOP, Tally, asked, on_full_disk, run_script, timed, written
+from tally import TOP, Tally, asked, executable, on_full_disk, run_script, timed, written
 from made_aml import SETS, device, method, table, tables
 
 
@@ -29,9 +29,7 @@ class Tries(Tally):
 
     def fake(self, name, text):
         """A program in place of acpidis."""
-        (self.room / name).write_text(f"#!/bin/sh\n{text}")
-        (self.room / name).chmod(0o755)
-        return str(self.room / name)
+        return str(executable(self.room / name, f"#!/bin/sh\n{text}"))
 
     def run(self, script, *words, **variables):
         return run_script(script, *words, cwd=self.room, env={**os.environ, **variables})

@@ -103,9 +103,6 @@ def check_set(checks: Tally, what: str, folder: pathlib.Path, options: Options, 
         checks.is_same(f"the rows of {name} of {what}", [row[0] for row in found], list(range(1, len(found) + 1)))
 
 
-# ---- the rest, as it is run
-
-
 def run(*words: object) -> subprocess.CompletedProcess:
     return run_script("facts.py", *words)
 
@@ -115,20 +112,16 @@ def rows_of(file: pathlib.Path, sql: str) -> list:
         return connection.execute(sql).fetchall()
 
 
-def written_texts(room: pathlib.Path, sets: dict) -> pathlib.Path:
-    """The texts and errors of some sets, as docs/many.md has them."""
-    for name, files in sets.items():
-        outcome = run_folder(written(room / "sets" / name, files), Options())
-        written(room / "texts" / name, {"text": outcome.out.encode(), "errors": outcome.err.encode()})
-    return room / "texts"
-
-
 def check_many(checks: Tally, room: pathlib.Path) -> None:
     """Machines with one code, and machines without facts."""
     first = VERSIONS["first"]
     sets = {"rack/a": first, "rack/b": {**first, "dmar.dat": first["dmar.dat"][:-1] + b"\7"}, "none": {"notes": b"no table"}}
     sets["rack/b"] |= {"dmar.dat": table(b"DMAR", b"\7\7", b"BOARD"), "more.dat": table(b"MORE", b"", b"BOARD")}
-    texts = written_texts(room, {**sets, "second": VERSIONS["second"]})
+    # The texts and errors of these, as docs/many.md has them
+    texts = room / "texts"
+    for name, files in {**sets, "second": VERSIONS["second"]}.items():
+        outcome = run_folder(written(room / "sets" / name, files), Options())
+        written(texts / name, {"text": outcome.out.encode(), "errors": outcome.err.encode()})
     lines = (texts / "second/text").read_bytes().splitlines(keepends=True)
     written(texts / "cut", {"text": b"".join(lines[:20])})
     found = run("--jobs", 2, "--dumps", room / "sets", texts, room / "facts")

@@ -16,7 +16,7 @@ import re
 import resource
 import subprocess
 
-from tally import TOP, Tally, asked, module_of, on_full_disk, run_script, timed, written
+from tally import TOP, Tally, asked, executable, module_of, on_full_disk, run_script, timed, written
 from acpidis_tools.errors import read_errors
 from acpidis_tools.listing import NoListing
 from acpidis_tools.page.markup import page
@@ -109,9 +109,8 @@ def run(script: str, *words: object, printed: int = subprocess.DEVNULL, **variab
 
 
 def check_texts(checks: Tally, room: pathlib.Path) -> None:
-    file, fake = room / "text", room / "acpidis"
-    fake.write_text(f"#!/bin/sh\nexec cat '{file}'\n")
-    fake.chmod(0o755)
+    file = room / "text"
+    fake = executable(room / "acpidis", f"#!/bin/sh\nexec cat '{file}'\n")
     spoken = set()
     for what, text in TEXTS.items():
         file.write_text(text)
@@ -168,12 +167,10 @@ def mutated(lines: list, dice: random.Random) -> str:
         elif kind == 3:
             words[dice.randrange(len(words))] = dice.choice(re.split(r"(\W)", dice.choice(lines)))
             lines[at] = "".join(words)
-        elif kind == 4:
-            place = dice.randrange(len(lines[at]) + 1)
-            lines[at] = lines[at][:place] + dice.choice('(){}\\^",.0AZ_a ') + lines[at][place:]
         else:
             place = dice.randrange(len(lines[at]) + 1)
-            lines[at] = lines[at][:place] + lines[at][place + dice.randint(1, 4):]
+            new, gone = (dice.choice('(){}\\^",.0AZ_a '), 0) if kind == 4 else ("", dice.randint(1, 4))
+            lines[at] = lines[at][:place] + new + lines[at][place + gone:]
         if not lines:
             return ""
     return "\n".join(lines) + "\n"

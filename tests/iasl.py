@@ -3,7 +3,7 @@
 import pathlib
 import re
 import subprocess
-from typing import NamedTuple
+from collections import namedtuple
 
 # What a keyword of ASL is in our words
 LINES = (pathlib.Path(__file__).parent / "iasl.txt").read_text().splitlines()[1:]
@@ -80,13 +80,8 @@ def units(text: str):
             bit = 8 * int(offset[1], 16) if offset else bit + int(unit[2] if unit else 0)
 
 
-class Macro(NamedTuple):
+class Macro(namedtuple("Macro", "kind arguments listed words")):
     """A macro: its word, the texts of its arguments, what stands in its braces, and what its keywords are in our words."""
-
-    kind: str
-    arguments: list
-    listed: list
-    words: list
 
     @property
     def numbers(self) -> list:

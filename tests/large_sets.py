@@ -64,9 +64,6 @@ def check(checks, trial, difference):
     checks.is_so(f"{words}, {trial.name}: {difference}", not difference)
 
 
-# ---- beside the independent reading
-
-
 def cuts():
     for number, code in enumerate(SETS["cuts"], 1):
         for length in range(len(code) + 1):
@@ -183,9 +180,6 @@ def scopes_of_no_scope():
         callers = (b"\\." + opened + b"Z%03d" % number for number in range(len(paths)))
         code += b"".join(method(caller, 0, path + b"\1\1") for caller, path in zip(callers, paths))
     return by_workers("Scopes of what is no scope", code)
-
-
-# ---- written down
 
 
 def of_one_method(name, body, lines):

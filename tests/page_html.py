@@ -68,7 +68,12 @@ class Read:
         self.anchors = [it.found["id"] for it in parts if "id" in it.found]
         self.lines, self.names, self.notes, self.says = {}, [], [], []
         (tree,) = (it for it in parts if it.tag == "nav")
-        self.rows = dict(map(read_row, (row for row in tree.all("p", "summary") if any(row.all("a")))))
+        self.rows = {}
+        for row in (row for row in tree.all("p", "summary") if any(row.all("a"))):
+            # The path of a row of the tree, with its class and its small words
+            words = [small.text() for small in row.all("small") if "class" not in small.found]
+            shown = "".join(word for word in words if not word.replace(",", "").isdigit())
+            self.rows[next(row.all("a")).found["href"][1:]] = [row.found.get("class"), shown]
         sections = [(it.found.get("class") or it.found["id"], it) for it in parts if it.tag == "section"]
         for line in (line for kind, it in sections if kind == "block" for line in it.all("p", "summary")):
             self.read_line(line)
@@ -115,13 +120,6 @@ class Read:
         aims = [(found["href"][1:], str(line)) for tag, found, _, line in self.names if tag == "a"]
         aims += [(path_text(path), str(line)) for tag, found, _, line in self.names for path in others_in(tag, found)]
         return {(entries[anchor], line) for anchor, line in aims if anchor in entries}
-
-
-def read_row(row: Element) -> tuple[str, list]:
-    """The path of a row of the tree, with its class and its small words."""
-    words = (small.text() for small in row.all("small") if "class" not in small.found)
-    shown = "".join(word for word in words if not word.replace(",", "").isdigit())
-    return next(row.all("a")).found["href"][1:], [row.found.get("class"), shown]
 
 
 def others_in(tag: str, found: dict) -> tuple:

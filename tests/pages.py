@@ -23,7 +23,7 @@ import subprocess
 import sys
 import tempfile
 
-from tally import TOP, Tally, written
+from tally import TOP, Tally, executable, written
 from made_aml import SETS, VERSIONS, tables
 
 LISTING = "docs/listing.md"
@@ -53,7 +53,6 @@ exec tar -C mine -cf - .
 def make_room(room, is_installed):
     for place, files in FOLDERS.items():
         written(room / place, files)
-    (room / "bin").mkdir()
     commands = {"bin/ssh": SSH}
     if is_installed:
         program = {"PROGRAM": str(TOP / "out/acpidis"), "PREFIX": str(room), "DESTDIR": ""}
@@ -62,8 +61,7 @@ def make_room(room, is_installed):
         (room / "examples").symlink_to(TOP / "examples")
         commands["acpidis"] = f"#!/bin/sh\nexec '{TOP}/acpidis' \"$@\"\n"
     for name, text in commands.items():
-        (room / name).write_text(text)
-        (room / name).chmod(0o755)
+        executable(room / name, text)
 
 
 def printed_by(words, **more):
@@ -199,9 +197,6 @@ def check_goals(checks):
         named = [line.split()[0] for line in goals.read_text().splitlines() if line[0] != "#"]
         lost = [it for it in named if it not in there]
         checks.is_so(f"{goals.relative_to(TOP)}: {', '.join(lost)} isn't there", not lost)
-
-
-# ---- the manual, options and words
 
 
 def check_manual(checks):

@@ -22,7 +22,7 @@ import sys
 import tempfile
 from collections import namedtuple
 
-from tally import TOP, Tally
+from tally import TOP, Tally, executable
 
 LEFT_OUT = shutil.ignore_patterns(".git", "out", "__pycache__", "must-fail", "proofs", "wrong-bodies.edits")
 # The program, and its copy by which the scripts run it
@@ -62,7 +62,7 @@ def trials(room):
         yield Trial(f"tests/pool_refusals.sh, a program that {what}", ["tests/pool_refusals.sh", "starts"], {POOL: text})
     for what, text in STUBS.items():
         page = {"examples/page.py": f"import os\nos.execv('{room}/{what}', ['page'])\n"}
-        write(room / what, text)
+        executable(room / what, text)
         yield Trial(f"tests/page.py, a script that {what}", ["tests/page.py", "--sets", "1"], page)
     for what in ("refuses", "prints nothing"):
         yield Trial(f"tests/costs.py, a program that {what}", ["tests/costs.py"], placed(STUBS[what]))
@@ -77,15 +77,8 @@ def trials(room):
     said = [line.partition(": ")[2] if "FAILED" in line else line for line in EMPTY_PAGES]
     yield Trial("tests/pages.py, empty pages", ["tests/pages.py", "--no-scripts"], pages, said=said)
     for what, text in (("proves nothing", "#!/bin/sh\n"), ("counts nothing", "#!/bin/sh\necho '0 passed, 0 failed'\n")):
-        write(room / f"rt {what}/rt", text)
+        executable(room / f"rt {what}/rt", text)
         yield Trial(f"./test, a command rt that {what}", ["./test"], {}, f"{room}/rt {what}:{os.environ['PATH']}")
-
-
-def write(file, text):
-    """A file that can be run."""
-    file.parent.mkdir(parents=True, exist_ok=True)
-    file.write_text(text)
-    file.chmod(0o755)
 
 
 def placed(text):
@@ -108,7 +101,7 @@ def copy_with(files, folder):
     """A copy of the repository with these files in it."""
     shutil.copytree(TOP, folder, ignore=LEFT_OUT, symlinks=True)
     for name, text in files.items():
-        write(folder / name, text)
+        executable(folder / name, text)
     return folder
 
 

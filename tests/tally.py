@@ -73,6 +73,14 @@ def written(folder: pathlib.Path, files: dict[str, bytes]) -> pathlib.Path:
     return folder
 
 
+def executable(file: pathlib.Path, text: str) -> pathlib.Path:
+    """A file of this text that can be run."""
+    file.parent.mkdir(parents=True, exist_ok=True)
+    file.write_text(text)
+    file.chmod(0o755)
+    return file
+
+
 def module_of(name: str, file: pathlib.Path) -> types.ModuleType:
     """A module of this name, whatever its file is called."""
     loader = importlib.machinery.SourceFileLoader(name, str(file))

@@ -6,10 +6,9 @@ constant, for one with a goal that it can't show, and can't read the word UNREAD
 """
 
 import pathlib
-import os
 import re
 
-from tally import TOP, Tally, module_of
+from tally import TOP, Tally, executable, module_of
 
 TESTS = TOP / "tests"
 # What tests/verdicts.txt has: the function, the verdict, words of its reason, and what was printed; then files
@@ -63,9 +62,7 @@ def check_trials(checks, tried, room):
     tried.TOP, log = room, f"{room}/log"
     files = {f"crates/{Crate.name}/{name}": text for name, text in SOURCES.items()}
     for name, text in {**files, "prover": PROVER.format(log=log)}.items():
-        pathlib.Path(room, name).parent.mkdir(parents=True, exist_ok=True)
-        tried.write(f"{room}/{name}", text)
-    os.chmod(f"{room}/prover", 0o755)
+        executable(pathlib.Path(room, name), text)
     kit = type("Kit", (), {"RATTLE": f"{room}/prover"})
     for count, bodies in TRIALS:
         tried.write(log, "")

@@ -193,6 +193,9 @@ class Reader:
         rest = int.from_bytes(self.span(at + 1, more, end), "little")
         return (lead & 0x0F | rest << 4 if more else lead & 0x3F), 1 + more
 
+    # How many bits a unit has.
+    bits = length
+
     def name(self, at, end):
         root = self.byte(at, end) == 0x5C
         start = at = at + root
@@ -302,7 +305,7 @@ class Reader:
         while at < end:
             lead = self.byte(at, end)
             if lead == 0x00:
-                at += 1 + self.length(at + 1, end)[1]
+                at += 1 + self.bits(at + 1, end)[1]
             elif lead in (0x01, 0x03):
                 width = 2 if lead == 0x01 else 3
                 self.span(at + 1, width, end)
@@ -312,7 +315,7 @@ class Reader:
             else:
                 name, at = self.name(at, end)
                 units.append(name)
-                at += self.length(at, end)[1]
+                at += self.bits(at, end)[1]
         return units
 
     def link(self, at, end, level):

@@ -4,8 +4,7 @@ from __future__ import annotations
 
 import hashlib
 import re
-from collections import Counter
-from dataclasses import dataclass
+from collections import Counter, namedtuple
 from difflib import SequenceMatcher
 from typing import Optional
 
@@ -20,19 +19,10 @@ Said = list[tuple[int, str]]
 Text = tuple[str, ...]
 
 
-@dataclass
-class Comparison:
+class Comparison(namedtuple("Comparison", "other adds lacks changes here lines tables")):
     """What another listing says: the texts of the paths that it adds and of those that it changes, and the paths that
     it lacks, with the texts here of those that it changes; the numbers of the lines here that differ; and of the tables,
     by their files, the lines that it alone has, None where it has no such file."""
-
-    other: str
-    adds: dict[Path, Text]
-    lacks: set[Path]
-    changes: dict[Path, Text]
-    here: dict[Path, Text]
-    lines: set[int]
-    tables: dict[str, Optional[Text]]
 
     def mark(self, path: Path) -> str:
         """How a path differs, in a word, and nothing where it doesn't."""

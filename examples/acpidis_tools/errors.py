@@ -3,8 +3,7 @@
 from __future__ import annotations
 
 import re
-from collections import defaultdict, deque
-from dataclasses import dataclass
+from collections import defaultdict, deque, namedtuple
 
 from acpidis_tools import aml
 from acpidis_tools.listing import PATH, Line, Listing, NoListing, path_of, path_text
@@ -14,11 +13,7 @@ MOST_SHOWN = 80
 FAULT = re.compile(rf"acpidis: body ({PATH}): ([A-Z][A-Za-z]+)(?: at ([0-9]{{1,9}}))?")
 
 
-@dataclass(frozen=True)
-class Fault:
-    word: str
-    at: int | None
-
+class Fault(namedtuple("Fault", "word at")):
     def __str__(self) -> str:
         return self.word if self.at is None else f"{self.word} at {self.at}"
 

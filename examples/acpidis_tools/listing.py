@@ -91,15 +91,8 @@ class Dump:
     notes: list[tuple[int, str]] = field(default_factory=list)
 
 
-@dataclass
-class Row:
+class Row(namedtuple("Row", "number path kind is_maybe times", defaults=[False, 1])):
     """A declared path: the kind of its first declaration, whether it only may stand, and how often it is declared."""
-
-    number: int
-    path: Path
-    kind: str
-    is_maybe: bool = False
-    times: int = 1
 
     @property
     def marks(self) -> str:

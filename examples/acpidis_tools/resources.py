@@ -2,8 +2,8 @@
 
 from __future__ import annotations
 
+from collections import namedtuple
 from functools import partial
-from typing import NamedTuple, Optional
 
 from acpidis_tools.standard import space_name
 
@@ -12,20 +12,16 @@ SMALL, LARGE = 1, 3
 END = 0x0F
 
 
-class Descriptor(NamedTuple):
-    """A descriptor: its name in ASL, where its bytes are, its addresses, its lines (interrupts, channels or pins), what else
-    it says, and the name of the device that it goes through."""
+# The fields of a descriptor, each with what it is where nothing says it
+FIELDS = {
+    "first": None, "last": None, "length": None, "digits": 8, "lines": (), "words": (), "source": "", "at": 0,
+    "size": 0,
+}  # fmt: skip
 
-    kind: str
-    first: Optional[int] = None
-    last: Optional[int] = None
-    length: Optional[int] = None
-    digits: int = 8
-    lines: tuple[int, ...] = ()
-    words: tuple[str, ...] = ()
-    source: str = ""
-    at: int = 0
-    size: int = 0
+
+class Descriptor(namedtuple("Descriptor", ["kind", *FIELDS], defaults=FIELDS.values())):
+    """A descriptor: its name in ASL, its addresses, with how many digits these have, its lines (interrupts, channels or
+    pins), what else it says, the name of the device that it goes through, and where its bytes are."""
 
     @property
     def text(self) -> str:

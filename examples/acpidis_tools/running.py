@@ -137,13 +137,6 @@ class Method:
     def __init__(self, node):
         self.node, self.raw, self.lines = node, None, []
 
-    def add(self, line):
-        raw = RAW.fullmatch(line)
-        if raw:
-            self.raw = bytes.fromhex(raw[1].replace(",", ""))
-        else:
-            self.lines.append(line)
-
     def lone_values(self, namespace):
         """How many of its terms are values that nothing takes."""
         return sum(is_lone(line, self.node, namespace) for line in self.lines)
@@ -185,8 +178,11 @@ class Listing:
                 open_blocks.pop()
                 continue
             try:
-                if method:
-                    method.add(line)
+                raw = RAW.fullmatch(line)
+                if method and raw:
+                    method.raw = bytes.fromhex(raw[1].replace(",", ""))
+                elif method:
+                    method.lines.append(line)
                 self.lines.append((line, scope, method))
                 if line.endswith(" {"):
                     open_blocks.append(self.opened(line, scope, method))

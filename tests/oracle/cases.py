@@ -59,9 +59,6 @@ def options_of(words):
     return Options(workers=workers, **{flag: flag in words for flag in FLAGS})
 
 
-# ---- what is answered to rows of words and bytes
-
-
 def counted(words):
     """A reader of a body in which each name takes so many arguments."""
     return lambda code: Reader(code, lambda _declared, _name: int(words))
@@ -151,9 +148,6 @@ OF_BYTES = {
     "many_rows": lambda words, _: [f"{words} at their places"],
     "many_counted": lambda words, _: [f"{words} found by 1 to 64 comparisons"],
 }
-
-
-# ---- other answers
 
 
 def or_none(answer):

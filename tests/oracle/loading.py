@@ -163,13 +163,8 @@ def uses_in(term):
     return named + [name for part in within for name in uses_in(part)]
 
 
-@dataclass
-class Loaded:
+class Loaded(namedtuple("Loaded", "codes trees space")):
     """Tables in load order: their AML, the terms of each, and the namespace of all."""
-
-    codes: list
-    trees: list
-    space: Namespace
 
     def bodies(self, unknown_zero):
         """The bodies of all methods, each read in the namespace of all tables."""

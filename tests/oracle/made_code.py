@@ -110,9 +110,6 @@ class Maker:
 
     # ---- bytes
 
-    def bytes(self, most):
-        return self.chance.randbytes(self.chance.randrange(most + 1))
-
     def length(self, size):
         """A package length, sometimes wider than it needs to be."""
         widths = [width for width in range(1, WIDEST + 1) if size + width < BOUNDS[width - 1]]
@@ -176,13 +173,10 @@ class Maker:
         if 0 < len(path) - shared <= MOST_SEGMENTS:
             names.append(Name(False, len(self.scope) - shared, list(path[shared:])))
         upward = Name(False, 0, list(path[-1:]))
-        if path and self.found(upward) == path:
+        known = self.known.keys() | self.methods.keys()
+        if path and next((it for it in upward.candidates(self.scope) if it in known), None) == path:
             names += [upward] * 4
         return self.chance.choice(names or [self.root_name(path)])
-
-    def found(self, name):
-        everything = self.known.keys() | self.methods.keys()
-        return next((path for path in name.candidates(self.scope) if path in everything), None)
 
     def scope_name(self):
         """The name of the path that a Scope opens."""
@@ -284,7 +278,7 @@ class Maker:
             return self.block(opcode, depth, inside)
         if kind == "b":
             return self.body(self.opened)
-        return self.bytes(4) if kind == "y" else b""
+        return self.chance.randbytes(self.chance.randrange(5)) if kind == "y" else b""
 
     def block(self, opcode, depth, inside):
         if opcode not in SCOPES:

@@ -151,7 +151,8 @@ class SetMaker:
         codes = maker.tables()
         self.given, self.paths = maker.given, [path for path in maker.known if path]
         signatures = [b"DSDT"] + [b"SSDT"] * (len(codes) - 1)
-        names = self.block_names(len(codes))
+        names = ["dsdt.dat", *(f"ssdt{number}.dat" for number in range(1, len(codes)))]
+        names = names if self.happens(0.8) else self.chance.sample(ODD_NAMES, len(codes))
         made = (table(self.chance, signature, code) for signature, code in zip(signatures, codes))
         files = dict(zip(names, made)) | self.extra_files()
         if self.happens(0.3):
@@ -186,10 +187,6 @@ class SetMaker:
         if self.given and how < 0.6:
             return (*segs, self.chance.choice(list(self.given))[-1])
         return tuple(segs)
-
-    def block_names(self, count):
-        names = ["dsdt.dat", *(f"ssdt{number}.dat" for number in range(1, count))]
-        return names if self.happens(0.8) else self.chance.sample(ODD_NAMES, count)
 
     def extra_files(self):
         chance = self.chance

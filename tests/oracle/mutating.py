@@ -1,6 +1,7 @@
 """Changes to AML by one who sees its structure: terms and packages go, come and move, with the lengths around them;
 and to whole sets of tables, given by the contents of files: to the AML of a table, to headers, or to files."""
 
+import contextlib
 import functools
 import re
 from collections import namedtuple
@@ -42,10 +43,8 @@ class Surveying:
     `base` on."""
 
     def survey(self):
-        try:
+        with contextlib.suppress(Refused):
             self.read()
-        except Refused:
-            pass
 
     def term(self, at, end, *rest):
         term, after = super().term(at, end, *rest)
@@ -80,23 +79,17 @@ def layouts_of(codes, any_run=False):
     """The layouts of a tuple of tables in load order, with the bodies of their methods where all of them load; with code
     outside methods, of the methods before a fault."""
     layouts = [Layout() for _ in codes]
-    space = RunNamespace() if any_run else plain_space(codes, layouts)
-    for table, (code, layout) in enumerate(zip(codes, layouts) if any_run else ()):
-        RunSurveyor(code, space=space, table=table, layout=layout).survey()
-    for method in space.methods if space else []:
+    space = RunNamespace()
+    for table, (code, layout) in enumerate(zip(codes, layouts)):
+        how = {"space": space, "table": table} if any_run else {}
+        (RunSurveyor if any_run else Surveyor)(code, layout=layout, **how).survey()
+    with contextlib.suppress(Unloadable):
+        space = space if any_run else load(codes).space
+    for method in space.methods:
         body = codes[method.table][method.start:method.end]
         arity = space.arity(method.path)
         Surveyor(body, arity, method.path, layout=layouts[method.table], base=method.start).survey()
     return layouts
-
-
-def plain_space(codes, layouts):
-    for code, layout in zip(codes, layouts):
-        Surveyor(code, layout=layout).survey()
-    try:
-        return load(codes).space
-    except Unloadable:
-        return None
 
 
 def replaced(code, layout, span, new):
@@ -130,11 +123,6 @@ class Mutator:
         """Where a term stands: mostly in a body, since a change elsewhere often refuses the whole set."""
         terms = layout.in_bodies if self.chance.random() < 0.7 else layout.terms
         return self.chance.choice(terms or layout.terms or [Span(0, 0)])
-
-    def gap(self, layout):
-        """The empty span before or behind a term."""
-        at = self.chance.choice(self.span(layout))
-        return Span(at, at)
 
     def flip(self, code, layout):
         start, end = self.span(layout)
@@ -174,7 +162,8 @@ class Mutator:
         start, end = self.span(layout)
         likely = bytes(self.chance.choice(LIKELY_BYTES) for _ in range(self.chance.choice((1, 1, 2, 5))))
         new = self.chance.choice((code[start:end], self.chance.choice(self.others or [b"\xa3"]), likely))
-        return replaced(code, layout, self.gap(layout), new)
+        at = self.chance.choice(self.span(layout))
+        return replaced(code, layout, Span(at, at), new)
 
     def wrap(self, code, layout):
         """A term within Ifs, or within LNots."""
@@ -230,9 +219,6 @@ def name_end(code, at):
         except Refused:
             pass
     return at
-
-
-# ---- whole sets
 
 
 def is_block(data):

@@ -32,10 +32,10 @@ def inline(part):
         return str(part)
     if isinstance(part, bytes):
         return quoted(part)
-    if isinstance(part, tuple):
-        return f"0x{part[1]:0{2 * part[0]}X}"
     if isinstance(part, Named):
         return str(part.name) + (f" ({', '.join(map(inline, part.args))})" if part.args else "")
+    if isinstance(part, tuple):
+        return f"0x{part[1]:0{2 * part[0]}X}"
     if part.opcode in CONSTANTS:
         return inline(part.parts[0])
     if part.row.tail == "y":

@@ -52,12 +52,7 @@ KINDS = {
 }
 
 
-@dataclass
-class Name:
-    root: bool
-    ups: int
-    segs: list
-
+class Name(namedtuple("Name", "root ups segs")):
     def __str__(self):
         return ("\\" if self.root else "") + "^" * self.ups + ".".join(self.segs)
 
@@ -74,15 +69,12 @@ class Name:
         return [] if path is None else [path]
 
 
-@dataclass
 class Nothing:
-    pass
+    """A target that isn't there."""
 
 
-@dataclass
-class Named:
-    name: Name
-    args: list
+# A name with its arguments
+Named = namedtuple("Named", "name args")
 
 
 @dataclass

@@ -46,9 +46,7 @@ ROW = re.compile(r"^  (\\\S*) \w+.*?( Maybe)?(?: Times \d+)?$", re.MULTILINE)
 METHOD = re.compile(r"^  Method \((\\\S*), 0, NotSerialized, 0\) \{\n((?:    .*\n)*)  \}$", re.MULTILINE)
 
 
-# ---- runs: of each the paths that it declared, with their kinds; that of an Alias has the path at which it aims
-
-
+# A run has the paths that it declared, with their kinds: that of an Alias has the path at which it aims.
 def kind_at(run, path):
     return run.get(path) or PREDEFINED.get(path)
 

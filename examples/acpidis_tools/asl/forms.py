@@ -19,11 +19,16 @@ class Reader(aml.Reader):
         super().__init__("", code, aml.Space(0))
         # Of each length and of each name whether it is in another form than the shortest
         self.said, self.bodies, self.lengths, self.names = iter(said), iter(bodies), [], []
-        self.in_units, self.arguments = False, 0
+        self.arguments = 0
 
     def length(self, at, end):
         value, width = super().length(at, end)
-        self.lengths.append(width > shortest(value if self.in_units else value - width))
+        self.lengths.append(width > shortest(value - width))
+        return value, width
+
+    def bits(self, at, end):
+        value, width = super().bits(at, end)
+        self.lengths.append(width > shortest(value))
         return value, width
 
     def name(self, at, end):
@@ -42,18 +47,6 @@ class Reader(aml.Reader):
         for _ in range(self.arguments if kind in "TR" and name.segments else 0):
             rest = self.term(rest, end, "T", level + 1)[1]
         return aml.Term(at, str(name)), rest
-
-    def units(self, *where):
-        self.in_units = True
-        units = super().units(*where)
-        self.in_units = False
-        return units
-
-    def link(self, at, end, level):
-        self.in_units = False
-        after = super().link(at, end, level)
-        self.in_units = True
-        return after
 
     def block(self, term, at, end, level):
         self.terms(at, end, level + 1)

@@ -58,9 +58,14 @@ class TreeWriter:
         """The tree. In a packed page the parts that begin closed are packed, but for small ones."""
         parts: list[list[str]] = [[]]
         opened: list[tuple[Path, bool]] = []
-        for path, node in self.nodes.items():
+        for path, node in (*self.nodes.items(), ((), None)):
             while opened and path[:len(opened[-1][0])] != opened[-1][0]:
-                self.close(parts, opened)
+                if opened.pop()[1]:
+                    inner = "".join(parts.pop())
+                    parts[-1].append(branch_html(inner))
+                parts[-1].append("</details>\n")
+            if node is None:
+                break
             if not node.has_children or len(opened) >= DEEPEST_FOLD:
                 parts[-1].append(f"<p{self.dimmed(node)}>{self.node_html(path, node)}</p>\n")
                 continue
@@ -71,17 +76,7 @@ class TreeWriter:
             opened.append((path, is_packed))
             if is_packed:
                 parts.append([])
-        while opened:
-            self.close(parts, opened)
         return parts[0]
-
-    @staticmethod
-    def close(parts: list[list[str]], opened: list[tuple[Path, bool]]) -> None:
-        _, is_packed = opened.pop()
-        if is_packed:
-            inner = "".join(parts.pop())
-            parts[-1].append(branch_html(inner))
-        parts[-1].append("</details>\n")
 
     def dimmed(self, node: Node) -> str:
         return classed("maybe" if node.is_maybe else "")
