@@ -21,7 +21,6 @@ import argparse
 import concurrent.futures
 import contextlib
 import hashlib
-import itertools
 import json
 import os
 import pathlib
@@ -249,23 +248,29 @@ def add_all(facts: Facts, machines: Iterator[Machine], jobs: int) -> str:
     waiting: deque = deque()
     fault, progress, processes = "", command.Progress("machine"), Processes(jobs)
     seen: set[str] = set()
-    for machine in itertools.chain(machines, [None]):
-        if machine:
-            code_sum, future = "" if machine.fault else sum_of(machine.text, machine.errors), None
-            if code_sum and code_sum not in seen:
-                seen.add(code_sum)
-                future = processes.submit(facts_of, machine.text, machine.errors)
-            machine.text = machine.errors = b""
-            waiting.append((machine, code_sum, future))
-        while len(waiting) > (WAITING * jobs if machine else 0):
-            done, code_sum, future = waiting.popleft()
-            if future:
-                facts.add_code(code_sum, done.above, *outcome(done, future))
-            fault = facts.add_machine(done, code_sum) or fault
+    for machine in machines:
+        code_sum = "" if machine.fault else sum_of(machine.text, machine.errors)
+        future = None
+        if code_sum and code_sum not in seen:
+            seen.add(code_sum)
+            future = processes.submit(facts_of, machine.text, machine.errors)
+        machine.text = machine.errors = b""
+        waiting.append((machine, code_sum, future))
+        while len(waiting) > WAITING * jobs:
+            fault = add_next(facts, *waiting.popleft()) or fault
             progress.step()
+    while waiting:
+        fault = add_next(facts, *waiting.popleft()) or fault
+        progress.step()
     processes.pool.shutdown()
     progress.end()
     return fault
+
+
+def add_next(facts: Facts, machine: Machine, code_sum: str, future: concurrent.futures.Future | None) -> str:
+    if future:
+        facts.add_code(code_sum, machine.above, *outcome(machine, future))
+    return facts.add_machine(machine, code_sum)
 
 
 def outcome(machine: Machine, future: concurrent.futures.Future) -> tuple[str, dict[str, list[list]]]:

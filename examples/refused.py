@@ -49,10 +49,11 @@ class Refusal:
 
     def __init__(self, line):
         form = LINE.fullmatch(line)
-        self.line, found = line.removeprefix("acpidis: "), form.groupdict() if form else {}
-        self.file, self.word, self.at, self.path = (found.get(it) for it in ("file", "word", "at", "path"))
-        self.file = os.fsdecode(file_name(self.file)) if self.file is not None else None
-        self.at = int(self.at) if self.at else None
+        self.line = line.removeprefix("acpidis: ")
+        self.file = os.fsdecode(file_name(form["file"])) if form and form["file"] is not None else None
+        self.word = form["word"] if form else ""
+        self.at = int(form["at"]) if form and form["at"] else None
+        self.path = form["path"] if form else None
 
 
 def shown_name(name):
