@@ -103,17 +103,17 @@ SETS = (
 Figures = namedtuple("Figures", "name size alone together iasl")
 
 
-def best(command, folder, asked):
+def best(command, folder, words):
     """The shortest of some runs, with its peak memory.
 
     GNU time begins the command from a small process; else this one's memory would count.
     """
     with open(folder / "text", "wb") as text, open(folder / "errors", "wb") as errors:
-        answer = measuring.best(asked.runs, command, folder, asked.seconds, text=text, errors=errors)
+        how = {"stdout": text, "stderr": errors}
+        answer = measuring.best(words.runs, command, folder, words.seconds, **how)
         if answer is None:
             return None
-        words = [TIME, "-q", "-f", "%M", "-o", "peak", *command]
-        subprocess.run(words, cwd=folder, stdout=text, stderr=errors, check=False)
+        subprocess.run([TIME, "-q", "-f", "%M", "-o", "peak", *command], cwd=folder, check=False, **how)
     return answer._replace(peak=int((folder / "peak").read_text().split()[-1]) * 1024)
 
 
@@ -124,9 +124,9 @@ def figures_of(name, make, words):
         beside.mkdir()
         size = measuring.write(tables, make)
         files = sorted(shutil.copy(path, beside) for path in tables.iterdir())
-        commands = [[asked.program, "--workers", str(count), str(tables)] for count in (1, MOST_WORKERS)]
+        commands = [[words.program, "--workers", str(count), str(tables)] for count in (1, MOST_WORKERS)]
         commands.append(["iasl", "-d", *(os.path.basename(file) for file in files)])
-        return Figures(name, size, *(best(command, beside, asked) for command in commands))
+        return Figures(name, size, *(best(command, beside, words) for command in commands))
 
 
 def row(figures, limit):

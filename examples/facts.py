@@ -35,7 +35,7 @@ from concurrent.futures.process import BrokenProcessPool
 from acpidis_tools import command
 from acpidis_tools.collecting import Collector, record_rows, table_rows
 from acpidis_tools.errors import Fault, read_errors
-from acpidis_tools.listing import Dump, Listing, NoListing, file_name, read_dumps, read_listing
+from acpidis_tools.listing import Listing, NoListing, file_name, read_dumps, read_listing
 from acpidis_tools.names import Names
 from acpidis_tools.schema import COLUMNS, INDEXES, OF_CODE, SCHEMA, insertion, shifted
 
@@ -65,7 +65,10 @@ class Machine:
             if self.text.count(b"\n") > MOST_LINES:
                 raise NoListing(f"it has more than {MOST_LINES:,} lines")
             found, files, self.above = read_dumps(self.text)
-            self.tables, self.records = table_rows(found, files, self.sums(found)), record_rows(found)
+            # The sums of the dumps by the names of files as the listing has them
+            there = [(dump.file, file_of(self.dumps, dump.file)) for dump in found] if self.dumps else []
+            sums = {name: hashlib.sha256(file.read_bytes()).hexdigest() for name, file in there if file}
+            self.tables, self.records = table_rows(found, files, sums), record_rows(found)
         except (NoListing, OSError) as fault:
             self.fault = said(fault)
         except MemoryError:
@@ -75,11 +78,6 @@ class Machine:
         """Its listing and its standard error."""
         text, errors = self.files
         return read_file(text), read_file(errors) if errors else b""
-
-    def sums(self, found: list[Dump]) -> dict[str, str]:
-        """The sums of the dumps by the names of files as the listing has them."""
-        files = [(dump.file, file_of(self.dumps, dump.file)) for dump in found] if self.dumps else []
-        return {name: hashlib.sha256(file.read_bytes()).hexdigest() for name, file in files if file}
 
 
 def read_file(file: pathlib.Path) -> bytes:

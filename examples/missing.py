@@ -74,10 +74,6 @@ class Trial:
         # What is read, without and with values that stand alone, and how many these are
         self.read, self.loose, self.values = values.count(0), len(values) - values.count(0), sum(values)
 
-    def rank(self):
-        """The less, the better."""
-        return bool(self.refused), len(self.faults), self.values
-
 
 class Search:
     """The names in the order of the rounds, each with the count that fits best so far.
@@ -175,7 +171,8 @@ class Search:
     def choose(self, name, trials):
         """Keeps the count that fits best, and says whether it is another one."""
         before = self.counts.get(name, 0)
-        self.counts[name] = min(COUNTS, key=lambda count: (*trials[count].rank(), count != before))
+        rank = lambda it: (bool(it.refused), len(it.faults), it.values)
+        self.counts[name] = min(COUNTS, key=lambda count: (*rank(trials[count]), count != before))
         return self.counts[name] != before
 
     def settle(self):

@@ -257,7 +257,11 @@ class Page:
         for number, (title, _) in enumerate([*PARTS, ADDED, PRINTED]):
             others = {it for other in roots[:number] + roots[number + 1 :] for it in other}
             self.part(title, roots[number], others.union(self.known))
-        self.fault_types()
+        # The types of FAULTS, behind all that an Ok is made of
+        types = [it for name in FAULTS[1] for (_, other), it in self.sources.types.items() if other == name]
+        self.lines += [f"## {FAULTS[0]}", "", "No statement on this page says what these hold.", ""]
+        self.block("rust", [line for it in types for line in [*it.lines, ""]])
+        self.parts.append((FAULTS[0], [], types))
 
     def part(self, title, roots, others):
         definitions = topmost_first(roots, lambda it: [used for used in it.uses if used not in others])
@@ -275,13 +279,6 @@ class Page:
             for section in some:
                 self.section(section[1], sections[section])
         self.parts.append((title, self.known[-len(definitions) :], [it for it in self.shown[shown:] if not it.seen and not it.stepped]))
-
-    def fault_types(self):
-        """The types of FAULTS, behind all that an Ok is made of."""
-        types = [it for name in FAULTS[1] for (_, other), it in self.sources.types.items() if other == name]
-        self.lines += [f"## {FAULTS[0]}", "", "No statement on this page says what these hold.", ""]
-        self.block("rust", [line for it in types for line in [*it.lines, ""]])
-        self.parts.append((FAULTS[0], [], types))
 
     def section(self, comment, definitions):
         block, around = [*comment, ""], []

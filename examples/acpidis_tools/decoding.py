@@ -65,7 +65,9 @@ class Decoder:
             if line.term in FIELD_LISTS:
                 head, access, bit = line, flag_words(self.terms(line))[0], 0
             elif head:
-                access = self.access_at(line) or access
+                # The access that the units behind an Access line have
+                kind = self.argument(line, 0) if line.term in ("Access", "ExtendedAccess") else None
+                access = named(ACCESS_TYPES, (kind.number or 0) & 0x0F) if kind else access
                 form = UNIT.fullmatch(line.pieces[-1])
                 width = int(form[1]) if form else 0
                 if line.declared == FIRST_WORD:
@@ -87,11 +89,6 @@ class Decoder:
         """An argument of a line's first term."""
         terms = self.terms(line)
         return terms[0].argument(place) if terms else None
-
-    def access_at(self, line: Line) -> str:
-        """The access that the units behind an Access line have."""
-        kind = self.argument(line, 0) if line.term in ("Access", "ExtendedAccess") else None
-        return named(ACCESS_TYPES, (kind.number or 0) & 0x0F) if kind else ""
 
     def meanings(self, line: Line) -> dict[int, Meaning]:
         places_of_names = (place for place, word in enumerate(line.words) if is_name(word))

@@ -3,6 +3,7 @@ with arguments, Scopes of what nothing declares and of what is no scope, declara
 names that only may stand, Aliases of what may be another Alias, and counts that differ."""
 
 import contextlib
+import functools
 
 from any_run import RunNamespace
 from made_code import ARGUMENT_COUNTS, IN_DEEP_TABLES, IN_TABLES, MOST_DEPTH, MOST_SEGMENTS, Maker
@@ -37,14 +38,9 @@ class RunMaker(Maker):
     def tables(self):
         codes = super().tables()
         if self.happens(0.04):
-            codes[0] += self.deep_blocks(self.chance.randrange(MOST_LEVELS - 5, MOST_LEVELS + 3))
+            count = self.chance.randrange(MOST_LEVELS - 5, MOST_LEVELS + 3)
+            codes[0] += functools.reduce(lambda code, _: self.packed(b"\xA0", b"\1" + code), range(count), b"\xA3")
         return codes
-
-    def deep_blocks(self, count):
-        code = b"\xA3"
-        for _ in range(count):
-            code = self.packed(b"\xA0", b"\1" + code)
-        return code
 
     def late_method(self, path, count):
         """The declaration of a method that bodies call; now and then there is one in each of two branches."""

@@ -248,10 +248,6 @@ class SetMutator:
                 else:
                     self.terms[self.chance.randrange(MOST_TERMS)] = term
 
-    def segments_of(self, files):
-        _, codes = blocks_of(files)
-        return sorted({segment.decode() for code in codes for segment in SEGMENT.findall(code)})
-
     def mutated(self, files):
         """The files with one change."""
         names, codes = blocks_of(files)
@@ -345,6 +341,7 @@ class MutatedMaker:
         """A file for `--externals` with names that stand in the tables."""
         if not self.maker.gives or self.chance.random() < 0.2:
             return None
-        segments = self.mutator.segments_of(files) or ["AAAA"]
+        found = {segment.decode() for code in blocks_of(files)[1] for segment in SEGMENT.findall(code)}
+        segments = sorted(found) or ["AAAA"]
         paths = [".".join(self.chance.choices(segments, k=self.chance.choice((1, 1, 1, 2, 3)))) for _ in range(20)]
         return "".join(f"\\{path} {self.chance.randrange(8)}\n" for path in paths).encode()

@@ -56,6 +56,7 @@ def run(command, limit, **how):
     started = time.monotonic()
     child = subprocess.Popen(command, **{"stdout": subprocess.DEVNULL, "stderr": subprocess.DEVNULL, **how})
     stop = threading.Timer(limit, child.kill)
+    stop.daemon = True
     stop.start()
     _, status, usage = os.wait4(child.pid, 0)
     seconds = time.monotonic() - started
