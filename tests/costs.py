@@ -31,7 +31,7 @@ SHAPES = {
 # Shapes of bench/hostile_shapes.py, each with the bytes of memory that a byte of it may take beside those of each run.
 BOUNDED = {
     "names-outside": 128, "regions-outside": 128, "terms-outside": 64, "connections-outside": 64, "deep-owners": 64,
-    "deep-owners-run": 128, "deep-pairs": 64,
+    "deep-owners-run": 128, "deep-pairs": 64, "maybe-aliases": 64, "maybe-aliases-deep": 64,
 }  # fmt: skip
 MOST_SECONDS, STARTED_BYTES = 2, 40_000_000
 

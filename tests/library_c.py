@@ -82,7 +82,7 @@ def link(room):
 def try_edge(checks, room, lib, program):
     """The calls of library_c.c, over a dump of a few bytes, and over one for which a set takes several large blocks."""
     source, few = TOP / "tests/library_c.c", (DEMO / "dsdt.dat").read_bytes()
-    dumps = {len(dump): written(room / f"one_{len(dump)}", {"dump": dump}) for dump in (few, sets.devices(300))}
+    dumps = {len(dump): written(room / f"one_{len(dump)}", {"dump": dump}) for dump in (few, devices(300)["dsdt.dat"])}
     trials = {
         "plain": ((), (), (), dumps),
         "plain, without pieces": (ALONE, (), ("short",), dumps),
