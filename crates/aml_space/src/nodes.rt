@@ -9,9 +9,8 @@ use aml_namespace::{Declarations, PathId};
 /// A node of the index. It stands for one path.
 #[derive(Drop)]
 pub(crate) struct Node {
-    /// What the declarations of the path say, where it is declared; in a box, since most nodes of a long path have
-    /// none.
-    pub declared: Option<Box<Declarations>>,
+    /// What the declarations of the path say, where it is declared.
+    pub declared: Option<Declarations>,
     /// The greatest count of its Externals.
     pub outs: Option<u8>,
     /// The greatest count that the user gives it.
@@ -27,7 +26,7 @@ pub(crate) struct Node {
 }
 
 // Each segment of a path has a node, and a path may have many thousands.
-const _: () = prove!(size_of::<Node>() == 56);
+const _: () = prove!(size_of::<Node>() == 72);
 
 impl Node {
     /// A node without content, a child of its parent by a segment.

@@ -10,14 +10,14 @@ use Rattle.aml_space.proofs.growing.declare_first.Goals.{After-set_declared}
 use Rattle.std.proofs.Common.{arith, ◌≤◌}
 
 put_here : (c : After-set_declared)
-    → HasDeclared c.extend.new.nodes.items c.set_declared.new.nodes.items c.in_ok-at.at c.in_ok-said.said.value
+    → HasDeclared c.extend.new.nodes.items c.set_declared.new.nodes.items c.in_ok-at.at c.in_ok-said.said
     → IsIndex c.set_declared.new.nodes.items × (known_by c.set_declared.new.nodes.items
     ≡ with_declaration (known_by c.args.nodes.now.items) c.args.path.now (once (kind_in (paths_in c.args.nodes.now.items) c.args.kind) c.args.sure))
 put_here c has =
     let old = c.args.nodes.now.items in
     let ns = c.extend.new.nodes.items in
     let d = once c.args.kind c.args.sure in
-    let said : c.in_ok-said.said.value ≡ d = c.in_ok-said.ensures.ok ∙ c.in_ok-new.ensures in
+    let said : c.in_ok-said.said ≡ d = c.in_ok-said.ensures in
     let put = put_declared ns c.set_declared.new.nodes.items c.args.path.now c.in_ok-at.at c.extend.ensures.index c.in_ok-at.ensures.node
     d (among_more (length old) (length ns) c.extend.ensures.kept.long d (c.requires.target, tt))
     (subst (λ d. HasDeclared ns c.set_declared.new.nodes.items c.in_ok-at.at d) said has) in
