@@ -3,8 +3,8 @@ ghost use Rattle.std.specs.Prelude.{◌≤◌, length};
 
 use crate::code::push_body_of;
 use crate::lines::{Line, count_of, first_word};
-use aml_names::{Arity, Locals, Name, NameForm, Path, ScopedPath, Seg, Segs, place};
-use aml_space::{BodyScope, Kind, Near, Space, SpacePath, SpaceRow};
+use aml_names::{Arity, Locals, Name, NameForm, Path, Seg, Segs, place};
+use aml_space::{BodyScope, Kind, Space, SpacePath, SpaceRow};
 use std::alloc::{AllocError, Global};
 use std::fmt::Write;
 
@@ -104,17 +104,8 @@ impl Names<'_> {
         match way {
             "place" => place(alloc, scope, name),
             "find" => self.space.find(alloc, scope, name),
-            "lead" => self.lead(alloc, scope, name),
+            "lead" => self.space.lead(alloc, scope, name),
             _ => self.space.search(alloc, self.locals, scope, name),
-        }
-    }
-
-    /// The path that a Scope opens, whatever runs.
-    fn lead(&self, alloc: Global, scope: &Path, name: &Name) -> Result<Option<Path>, AllocError> {
-        let scope = ScopedPath::whole(alloc, scope.clone()?)?;
-        match self.space.lead(alloc, Near::root(), &scope, name)? {
-            Some(led) => Ok(Some(led.path.to_path(alloc)?)),
-            None => Ok(None),
         }
     }
 
@@ -203,8 +194,8 @@ impl Names<'_> {
 
     /// Whether a Scope may open a path in every run.
     fn push_scope(&self, out: &mut String, path: &Path) -> Result<(), AllocError> {
-        let parts = path.parts();
-        let scope = if self.space.is_scope(Near::root(), &parts) {
+        let whole = self.space.whole(path.segs());
+        let scope = if self.space.is_scope(&whole) {
             "a scope"
         } else {
             "no scope"
@@ -214,8 +205,8 @@ impl Names<'_> {
 
     /// Whether an Alias of a path is open.
     fn push_alias(&self, out: &mut String, path: &Path) -> Result<(), AllocError> {
-        let parts = path.parts();
-        let open = if self.space.is_open(Near::root(), &parts) {
+        let whole = self.space.whole(path.segs());
+        let open = if self.space.is_open(&whole) {
             "open"
         } else {
             "not open"
@@ -225,13 +216,13 @@ impl Names<'_> {
 
     /// Whether a path is declared, and whether it has a kind in every run.
     fn push_declared(&self, out: &mut String, path: &Path) -> Result<(), AllocError> {
-        let parts = path.parts();
-        let declared = if self.space.is_declared(Near::root(), &parts) {
+        let whole = self.space.whole(path.segs());
+        let declared = if self.space.is_declared(&whole) {
             "declared"
         } else {
             "not declared"
         };
-        let sure = if self.space.is_sure(Near::root(), &parts) {
+        let sure = if self.space.is_sure(&whole) {
             "sure"
         } else {
             "not sure"

@@ -7,20 +7,19 @@ use Rattle.std.proofs.Crossing.{crosses}
 use Rattle.std.proofs.MapsCrossing as Maps
 use Rattle.aml_code.proofs.tree.Field.TheLaws.TheKnot as Field
 use Rattle.aml_code.specs.contracts.tree.Node as Node
-use Rattle.aml_names.proofs.shared.ScopedPath.TheSendSync as Scoped
 use Rattle.aml_load.below.aml_children.proofs.trees.Tree.TheLaws.TheKnot as Tree
 use Rattle.aml_set.specs.contracts.tables.TableSet as TableSet
 use Rattle.aml_space.specs.contracts.spaces.Space as Space
 use Rattle.acpidis.specs.contracts.bodies.Keeping as Keeping
 
 space_sync : IsSync Space.the_row
-space_sync = search (crosses, Maps.crosses, Tree.crosses, Scoped.the_sync, sendable) depth 80 fits 60000
+space_sync = search (crosses, Maps.crosses, Tree.crosses, sendable) depth 80 fits 60000
 
 node_sync : IsSync Node.the_row
 node_sync = search (crosses, Field.crosses, sendable) depth 80 fits 60000
 
 set_sync : (b : NamedLft) → IsSync (TableSet.the_row b)
-set_sync b = search (space_sync, node_sync, crosses, Scoped.the_sync, sendable) depth 60 fits 40000
+set_sync b = search (space_sync, node_sync, crosses, sendable) depth 60 fits 40000
 
 pub keeping_sync : (a b : NamedLft) (K : RattleType) → IsSync K → IsSync (Keeping.the_row a b K)
 keeping_sync a b K kept =

@@ -1,7 +1,7 @@
 -- What the progress holds after one entry more.
 use Rattle.std.proofs.Common.{◌≡◌, ℕ, ◌-◌, nat_le, true, cond, List, [], ◌∷◌, ◌++◌, length, Vec, Option, Some, None}
 use Rattle.std.proofs.Common.{is_some, Result, Ok, Err, refl}
-use Rattle.std.proofs.Common.{sym, ap, subst, ◌∙◌, inl, inr, arith, Bool, false, not, ◌&&◌}
+use Rattle.std.proofs.Common.{sym, ap, subst, ◌∙◌, inl, inr, arith, rules, Bool, false, not, ◌&&◌}
 use Rattle.std.proofs.lemmas.Bool.Decides.{nat_tests}
 use Rattle.std.proofs.lemmas.List.{append-nil, take_all}
 use Rattle.aml_names.specs.Names.{placed}
@@ -9,11 +9,16 @@ use Rattle.std.specs.declared.alloc.Global.{Global}
 use Rattle.aml_code.specs.Lawful.{plain_name, unit_names}
 use Rattle.aml_code.specs.declared.packages.PkgWidth.{PkgWidth}
 use Rattle.aml_code.specs.declared.rows.Role.{Role}
-use Rattle.aml_code.specs.declared.tree.Node.{Node, Op}
+use Rattle.aml_code.specs.declared.tree.Node.{Node, Op, the_lemmas}
 use Rattle.aml_code.specs.declared.tree.Part.{Part}
-use Rattle.aml_code.specs.declared.tree.Tail.{Tail as CodeTail}
-use Rattle.aml_code.specs.Tree.{Tree, op, Field as CodeField, unit, Fields, no_fields, field_more}
-use Rattle.aml_code.specs.View.{node_view, parts_view, tail_view}
+use Rattle.aml_code.specs.declared.tree.Tail.{Tail as CodeTail, Terms}
+use Rattle.aml_code.specs.declared.rows.Role.TheVariants as roles
+use Rattle.aml_code.specs.declared.rows.Object.{Object}
+use Rattle.aml_code.specs.Lawful.{last_label}
+use Rattle.aml_load.specs.Loading.{kind_of}
+use Rattle.aml_load.specs.Declaring.{under}
+use Rattle.aml_code.specs.Tree.{Tree, Trees, Parts, Tail, terms, tree_more, op, Field as CodeField, unit, Fields, no_fields, field_more}
+use Rattle.aml_code.specs.View.{node_view, nodes_view, parts_view, tail_view}
 use Rattle.aml_code.proofs.Views.{view-Op}
 use Rattle.std.specs.Option.{ok_or}
 use Rattle.std.specs.List.{cons_option}
@@ -22,9 +27,9 @@ use Rattle.aml_namespace.specs.Kinds.{Kind}
 use Rattle.aml_namespace.specs.declared.kinds.Kind.TheVariants as kinds
 use Rattle.aml_space.specs.declared.faults.SpaceFault.TheVariants as faults
 use Rattle.aml_namespace.specs.Namespace.{Entry, Body, declares, declared_at}
-use Rattle.aml_namespace.specs.Known.{Grows, StandsAt, StandsFor, with_scopes}
+use Rattle.aml_namespace.specs.Known.{Grows, StandsAt, StandsFor}
 use Rattle.aml_namespace.proofs.Numbers.{still_at}
-use Rattle.aml_namespace.proofs.Stands.{stands_grown, stands_inside}
+use Rattle.aml_namespace.proofs.Stands.{stands_grown}
 use Rattle.aml_load.specs.declared.faults.LoadFault.{LoadFault}
 use Rattle.aml_load.specs.declared.faults.LoadFault.TheVariants as loads
 use Rattle.std.proofs.lemmas.Option.{slice_get_within, get_or_from_slice_get}
@@ -34,7 +39,7 @@ use Rattle.aml_set.specs.Methods.{Method, method_in, methods_in, AreNumbered}
 use Rattle.aml_set.proofs.MethodLaws.{as_many, one_method, one_numbered, same_methods, still_numbered}
 use Rattle.aml_load.specs.declared.walking.Progress.{Progress}
 use Rattle.aml_load.specs.Declaring.{◌>>=◌, Listed, plus, with_uses, term_uses, place_at, entry_at, new_at, units_at}
-use Rattle.aml_load.specs.Declaring.{declare_as, declare, declare_inside}
+use Rattle.aml_load.specs.Declaring.{declare_as, declare, declare_inside, declare_all}
 use Rattle.aml_load.specs.Loading.{Where, method_of, methods_of, role_of, plain_entry}
 use Rattle.aml_load.specs.Tables.{Fails}
 use Rattle.aml_load.specs.Groups.{AreKnown, uses_of}
@@ -108,18 +113,6 @@ method_held old new l p k b sure m h s ms at is us paths = record {
   known = known_as old new h.known paths us;
 }
 
--- a scope more is open
-pub inside_held : (old new : Progress) (l : Listed) (scope : List Seg)
-    → Grows (with_scopes old.space (old.space.scopes ++ scope ∷ [])) new.space → new.methods.items ≡ old.methods.items
-    → new.uses.items ≡ old.uses.items → Holds old l → Holds new l
-inside_held old new l scope grows ms us h = record {
-  numbered = numbered_as old new h.numbered (λ id p. still_at _ _ id p grows) ms;
-  space = stands_grown _ _ l.entries grows (stands_inside old.space (old.space.scopes ++ scope ∷ []) l.entries h.space);
-  methods = methods_as old new h.numbered (λ id p. still_at _ _ id p grows) ms ∙ h.methods;
-  uses = uses_as old new h.known (λ id p. still_at _ _ id p grows) us ∙ h.uses;
-  known = known_as old new h.known (λ id p. still_at _ _ id p grows) us;
-}
-
 -- paths have numbers more
 pub grown_held : (old new : Progress) (l : Listed) → Grows old.space new.space → new.methods.items ≡ old.methods.items
     → new.uses.items ≡ old.uses.items → Holds old l → Holds new l
@@ -189,6 +182,42 @@ units_more site m k (unit s w n) us e =
     let new : Result Listed LoadFault = new_at site m (Some (plain_name s)) (plain_entry site m.entries kinds.Field) in
     sym (ap (λ (r : Result Listed LoadFault). r >>= λ j. units_at site j (unit_names us)) (sym (ended new) ∙ e))
 units_more site m k _ us e = let same : k ≡ m = cc in ap (λ j. units_at site j (unit_names us)) same
+
+-- where one may not be declared, loading forward fails there
+pub units_fail : (site : Where) (m : Listed) (u : CodeField) (us : Fields) (e : LoadFault)
+    → Fails e (units_at site m (unit_names (field_more u no_fields))) → Fails e (units_at site m (unit_names (field_more u us)))
+unfolding units_at
+units_fail site m u us e (inl want) = inl want
+units_fail site m (unit s w n) us e (inr fails) =
+    let new : Result Listed LoadFault = new_at site m (Some (plain_name s)) (plain_entry site m.entries kinds.Field) in
+    inr (ap (λ (r : Result Listed LoadFault). r >>= λ j. units_at site j (unit_names us)) (sym (ended new) ∙ fails))
+units_fail site m _ us e (inr fails) = absurd cc
+
+-- terms inside a term
+pub view-Terms : (ts : Vec Node Global) → tail_view (Terms ts) ≡ terms (nodes_view ts.items)
+view-Terms ts = search (rules, the_lemmas)
+
+-- what an object declares that holds terms
+pub object_terms : (site : Where) (l m : Listed) (o : Object) (ps : Parts) (r : Tail) (p : List Seg)
+    (inside : Listed → Where → Result Listed LoadFault) → place_at site (last_label None ps) ≡ Ok p
+    → entry_at site l p (plain_entry site l.entries (kind_of o) p) ≡ Ok m
+    → inside m (under site p) ≡ declare_as (roles.Declares o) site l ps r inside
+unfolding declare_as
+object_terms site l m o ps r p inside placed declared =
+    sym (ap (λ (q : Result (List Seg) LoadFault). q >>= λ p. entry_at site l p (plain_entry site l.entries (kind_of o) p) >>= λ m. inside m (under site p)) placed
+    ∙ ap (λ (q : Result Listed LoadFault). q >>= λ m. inside m (under site p)) declared)
+
+-- one term, and those behind it
+pub terms_more : (site : Where) (m k : Listed) (x : Tree) (xs : Trees) → declare site m x ≡ Ok k
+    → declare_all site k xs ≡ declare_all site m (tree_more x xs)
+unfolding declare_all
+terms_more site m k x xs is = sym (ap (λ (r : Result Listed LoadFault). r >>= λ j. declare_all site j xs) is)
+
+pub terms_fail : (site : Where) (m : Listed) (x : Tree) (xs : Trees) (e : LoadFault) → Fails e (declare site m x)
+    → Fails e (declare_all site m (tree_more x xs))
+unfolding declare_all
+terms_fail site m x xs e (inl want) = inl want
+terms_fail site m x xs e (inr fails) = inr (ap (λ (r : Result Listed LoadFault). r >>= λ j. declare_all site j xs) fails)
 
 -- where an entry may be added, it is there
 pub entry_free : (site : Where) (l : Listed) (p : List Seg) (x : Entry)

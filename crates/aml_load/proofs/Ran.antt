@@ -30,8 +30,8 @@ use Rattle.aml_load.specs.declared.faults.LoadFault.{LoadFault}
 use Rattle.aml_load.specs.Declaring.{◌>>=◌, Listed, code_fault}
 use Rattle.aml_load.specs.Running.{Front, counts_in, entered_at, run_names}
 use Rattle.aml_load.specs.declared.runner.Rest.{Rest}
-use Rattle.aml_load.specs.declared.runner.RunSite.{RunSite}
-use Rattle.aml_load.specs.Runner.{below, opens, span_inside, with_terms, front_of, RoomBy, HasRoom, HasRoomInside}
+use Rattle.aml_load.specs.Loading.{Where}
+use Rattle.aml_load.specs.Runner.{below, opens, span_inside, with_terms, front_at, RoomBy, HasRoom, HasRoomInside}
 use Rattle.aml_load.specs.Runner.{IsThere}
 use Rattle.aml_load.specs.Tables.{Fails}
 
@@ -198,68 +198,68 @@ behind_is code r h end p has (arity, reads) e = (
   ap is_run e ∙ runs_on r.position h has.run,
 )
 
-module _ (site : RunSite) (code : List ℕ) (r : Rest) where
+module _ (site : Where) (code : List ℕ) (r : Rest) where
   abbrev reader : SpanReader (run_names site.table) code
   reader = below r.levels site.table code
 
   abbrev walk : Listed → Result ((Tree × Tree) × (ℕ × Front)) LoadFault
-  walk l = run_term_at (run_names site.table) code r.levels reader r.position r.at r.end (front_of site l)
+  walk l = run_term_at (run_names site.table) code r.levels reader r.position r.at r.end (front_at site l)
 
   abbrev whole : Listed → Tree × ℕ → Tree × Front → Result ((Tree × Tree) × (ℕ × Front)) LoadFault
-  whole l x y = Ok ((x.0, y.0), (x.1, record (front_of site l) { listed = y.1.listed }))
+  whole l x y = Ok ((x.0, y.0), (x.1, record (front_at site l) { listed = y.1.listed }))
 
   abbrev in_head : Listed → Tree × ℕ → Front → Result ((Tree × Tree) × (ℕ × Front)) LoadFault
   in_head l x inner = opened_at (run_names site.table) code reader (is_block x.0) x.0 inner >>= whole l x
 
-  walk_is : (l m : Listed) (inner : RunSite) (x : Tree × ℕ)
-      → in_step (run_names site.table) code (step_at (counts_in (front_of site l)) r.levels r.position code r.at r.end) ≡ Ok x
-      → entered_at (front_of site l) x.0 ≡ Ok (front_of inner m) → walk l ≡ in_head l x (front_of inner m)
+  walk_is : (l m : Listed) (inner : Where) (x : Tree × ℕ)
+      → in_step (run_names site.table) code (step_at (counts_in (front_at site l)) r.levels r.position code r.at r.end) ≡ Ok x
+      → entered_at (front_at site l) x.0 ≡ Ok (front_at inner m) → walk l ≡ in_head l x (front_at inner m)
   unfolding run_term_at
   walk_is l m inner x reads enters =
-      ap (λ (s : Result (Tree × ℕ) LoadFault). s >>= λ (y : Tree × ℕ). entered_at (front_of site l) y.0 >>= in_head l y) reads
+      ap (λ (s : Result (Tree × ℕ) LoadFault). s >>= λ (y : Tree × ℕ). entered_at (front_at site l) y.0 >>= in_head l y) reads
       ∙ ap (λ (s : Result Front LoadFault). s >>= in_head l x) enters
 
-  pub term_is : (l m k : Listed) (inner : RunSite) (x : Tree × ℕ) (t : Tree)
-      → in_step (run_names site.table) code (step_at (counts_in (front_of site l)) r.levels r.position code r.at r.end) ≡ Ok x
-      → entered_at (front_of site l) x.0 ≡ Ok (front_of inner m) → inner.table ≡ site.table
-      → opened_at (run_names inner.table) code (below r.levels inner.table code) (is_block x.0) x.0 (front_of inner m) ≡ Ok (t, front_of inner k)
-      → walk l ≡ Ok ((x.0, t), (x.1, front_of site k))
+  pub term_is : (l m k : Listed) (inner : Where) (x : Tree × ℕ) (t : Tree)
+      → in_step (run_names site.table) code (step_at (counts_in (front_at site l)) r.levels r.position code r.at r.end) ≡ Ok x
+      → entered_at (front_at site l) x.0 ≡ Ok (front_at inner m) → inner.table ≡ site.table
+      → opened_at (run_names inner.table) code (below r.levels inner.table code) (is_block x.0) x.0 (front_at inner m) ≡ Ok (t, front_at inner k)
+      → walk l ≡ Ok ((x.0, t), (x.1, front_at site k))
   term_is l m k inner x t reads enters same opens =
       walk_is l m inner x reads enters
       ∙ ap (λ (s : Result (Tree × Front) LoadFault). s >>= whole l x)
-      (subst (λ (n : ℕ). opened_at (run_names n) code (below r.levels n code) (is_block x.0) x.0 (front_of inner m) ≡ Ok (t, front_of inner k)) same opens)
+      (subst (λ (n : ℕ). opened_at (run_names n) code (below r.levels n code) (is_block x.0) x.0 (front_at inner m) ≡ Ok (t, front_at inner k)) same opens)
 
-  pub term_fails : (l m : Listed) (inner : RunSite) (x : Tree × ℕ) (e : LoadFault)
-      → in_step (run_names site.table) code (step_at (counts_in (front_of site l)) r.levels r.position code r.at r.end) ≡ Ok x
-      → entered_at (front_of site l) x.0 ≡ Ok (front_of inner m) → inner.table ≡ site.table
-      → Fails e (opened_at (run_names inner.table) code (below r.levels inner.table code) (is_block x.0) x.0 (front_of inner m))
+  pub term_fails : (l m : Listed) (inner : Where) (x : Tree × ℕ) (e : LoadFault)
+      → in_step (run_names site.table) code (step_at (counts_in (front_at site l)) r.levels r.position code r.at r.end) ≡ Ok x
+      → entered_at (front_at site l) x.0 ≡ Ok (front_at inner m) → inner.table ≡ site.table
+      → Fails e (opened_at (run_names inner.table) code (below r.levels inner.table code) (is_block x.0) x.0 (front_at inner m))
       → Fails e (walk l)
   term_fails l m inner x e reads enters same (inl want) = inl want
   term_fails l m inner x e reads enters same (inr h) = inr (
       walk_is l m inner x reads enters
       ∙ ap (λ (s : Result (Tree × Front) LoadFault). s >>= whole l x)
-      (subst (λ (n : ℕ). opened_at (run_names n) code (below r.levels n code) (is_block x.0) x.0 (front_of inner m) ≡ Err e) same h))
+      (subst (λ (n : ℕ). opened_at (run_names n) code (below r.levels n code) (is_block x.0) x.0 (front_at inner m) ≡ Err e) same h))
 
 -- ---- reading a step
 
 -- the counts that the names of a scope answer are those in front of a term there
-counts_are : (v : BodyView) (k : Known) (site : RunSite) (l : Listed) → v ≡ record { known = k; method = site.scope; unknown_zero = false }
+counts_are : (v : BodyView) (k : Known) (site : Where) (l : Listed) → v ≡ record { known = k; method = site.scope; unknown_zero = false }
     → StandsFor k l.entries
-    → (λ (locals : PathSet) (name : Name). Some (unwrap_or (agreed_arity (outlook_in v.known) v.unknown_zero v.method locals name) 0)) ≡ counts_in (front_of site l)
+    → (λ (locals : PathSet) (name : Name). Some (unwrap_or (agreed_arity (outlook_in v.known) v.unknown_zero v.method locals name) 0)) ≡ counts_in (front_at site l)
 counts_are v k site l e s =
     let Counts : Outlook → Bool → List Seg → PathSet → Name → Option ℕ = λ o z p locals name. Some (unwrap_or (agreed_arity o z p locals name) 0) in
     ap (λ (w : BodyView). Counts (outlook_in w.known) w.unknown_zero w.method) e
     ∙ ap (λ (o : Outlook). Counts o false site.scope) (same_outlook k l.entries s)
 
-module _ (v : BodyView) (k : Known) (site : RunSite) (l : Listed) (code : List ℕ) (r : Rest) (e : v ≡ record { known = k; method = site.scope; unknown_zero = false })
+module _ (v : BodyView) (k : Known) (site : Where) (l : Listed) (code : List ℕ) (r : Rest) (e : v ≡ record { known = k; method = site.scope; unknown_zero = false })
     (s : StandsFor k l.entries) where
   abbrev asked : Result (Tree × ℕ) CodeFault
   asked = step_at (λ locals name. Some (unwrap_or (agreed_arity (outlook_in v.known) v.unknown_zero v.method locals name) 0)) r.levels r.position code r.at r.end
 
   abbrev here : Result (Tree × ℕ) LoadFault
-  here = in_step (run_names site.table) code (step_at (counts_in (front_of site l)) r.levels r.position code r.at r.end)
+  here = in_step (run_names site.table) code (step_at (counts_in (front_at site l)) r.levels r.position code r.at r.end)
 
-  same_step : asked ≡ step_at (counts_in (front_of site l)) r.levels r.position code r.at r.end
+  same_step : asked ≡ step_at (counts_in (front_at site l)) r.levels r.position code r.at r.end
   same_step = ap (λ (counts : Arities). step_at counts r.levels r.position code r.at r.end) (counts_are v k site l e s)
 
   pub step_read : (x : Tree × ℕ) → asked ≡ Ok x → here ≡ Ok x

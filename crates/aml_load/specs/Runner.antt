@@ -3,7 +3,7 @@
 use Rattle.std.specs.Prelude.{◌≡◌, ◌≤◌, ◌<◌, ◌+◌, ◌-◌, ℕ, zero, suc, Bool, true, false, cond, List, length, Option}
 use Rattle.std.specs.Prelude.{Some}
 use Rattle.std.specs.Prelude.{None, Result, Ok, Err, option_map}
-use Rattle.std.specs.Prelude.{IsTrue, Vec, take}
+use Rattle.std.specs.Prelude.{IsTrue, Vec}
 use Rattle.std.specs.Option.{unwrap_or}
 use Rattle.std.specs.declared.alloc.Global.{Global}
 use Rattle.aml_parse.proofs.Forward.{is_run}
@@ -19,7 +19,7 @@ use Rattle.aml_parse.specs.Running.{SpanReader, has_terms, is_block, in_step, op
 use Rattle.aml_parse.specs.Running.{run_span_at, run_table_at}
 use Rattle.aml_load.specs.declared.faults.LoadFault.{LoadFault}
 use Rattle.aml_load.specs.declared.faults.LoadFault.TheVariants as loads
-use Rattle.aml_load.specs.declared.runner.RunSite.{RunSite}
+use Rattle.aml_load.specs.declared.uses.Site.{Site}
 use Rattle.aml_load.specs.declared.runner.Rest.{Rest}
 use Rattle.aml_load.specs.declared.runner.Term.{Term}
 use Rattle.aml_load.specs.declared.walking.Progress.{Progress}
@@ -30,9 +30,7 @@ use Rattle.aml_load.specs.Loading.{Where}
 use Rattle.aml_load.specs.Running.{Front, table_front, counts_in, entered_at, run_names}
 use Rattle.std.specs.Prelude.{[]}
 use Rattle.aml_load.specs.Tables.{Fails}
-use Rattle.aml_load.specs.Walking.{Gives, Holds}
-use Rattle.aml_names.specs.declared.segments.Seg.{Seg}
-use Rattle.aml_space.specs.Near.{IsOpen}
+use Rattle.aml_load.specs.Walking.{at_site, Gives, Holds}
 
 -- ---- blocks
 
@@ -83,39 +81,29 @@ IsOn r x = (r.at < x.behind) × (x.behind ≤ r.end) × IsTrue (is_run x.positio
 
 -- ---- what the walk makes of the progress
 
--- where a term at a site stands, and what stands in front of it
-abbrev pub run_site : RunSite → Where
-run_site s = record { table = s.table; scope = s.scope; any_run = true; sure = s.sure }
-
-abbrev pub front_of : RunSite → Listed → Front
-front_of s l = record { listed = l; site = run_site s }
+-- where a term stands, and what stands in front of it
+abbrev pub front_at : Where → Listed → Front
+front_at w l = record { listed = l; site = w }
 
 -- reading a step, whatever the progress holds
-abbrev pub Steps : Progress → RunSite → Rest → List ℕ → Result (Node × ℕ) LoadFault → Type 0
+abbrev pub Steps : Progress → Site → Rest → List ℕ → Result (Node × ℕ) LoadFault → Type 0
 Steps p s r code answer = (l : Listed) → Holds p l → Gives (λ (x : Node × ℕ). (node_view x.0, x.1)) answer
-    (in_step (run_names s.table) code (step_at (counts_in (front_of s l)) r.levels r.position code r.at r.end))
+    (in_step (run_names s.table) code (step_at (counts_in (front_at (at_site p.space s) l)) r.levels r.position code r.at r.end))
 
--- the scope of a site is open at its place
-abbrev pub IsWithin : Progress → RunSite → Type 0
-IsWithin p s = IsOpen p.space.scopes s.place s.scope
-
--- that of a site inside a term is, and the scopes before it are open as they were
-abbrev pub IsEntered : List (List Seg) → Progress → RunSite → Type 0
-IsEntered before new inner = IsWithin new inner × (take (length before) new.space.scopes ≡ before)
-
--- what was answered is this site, or memory was refused
-abbrev pub IsSite : Result RunSite LoadFault → RunSite → Type 0
-IsSite (Ok s) t = s ≡ t
-IsSite (Err e) t = e ≡ loads.NoMemory
+-- what was answered is a site that differs in its scope from one alone, or memory was refused
+abbrev pub IsSiteOf : Result Site LoadFault → (ℕ → Site) → Type 0
+IsSiteOf (Ok s) of = s ≡ of s.scope
+IsSiteOf (Err e) of = e ≡ loads.NoMemory
 
 -- what was made of the progress, and where the terms inside a term stand
-abbrev pub Came : Progress → RunSite → Result RunSite LoadFault → Result Front LoadFault → Type 0
-Came new s (Ok inner) walk = (inner.table ≡ s.table) × ((m : Listed) × Holds new m × (walk ≡ Ok (front_of inner m)))
+abbrev pub Came : Progress → Site → Result Site LoadFault → Result Front LoadFault → Type 0
+Came new s (Ok inner) walk = (inner.table ≡ s.table)
+    × ((m : Listed) × Holds new m × (walk ≡ Ok (front_at (at_site new.space inner) m)))
 Came new s (Err e) walk = Fails e walk
 
 -- the same, whatever the progress holds
-abbrev pub Comes : Progress → Progress → RunSite → Result RunSite LoadFault → (Front → Result Front LoadFault) → Type 0
-Comes old new s answer walk = (l : Listed) → Holds old l → Came new s answer (walk (front_of s l))
+abbrev pub Comes : Progress → Progress → Site → Result Site LoadFault → (Front → Result Front LoadFault) → Type 0
+Comes old new s answer walk = (l : Listed) → Holds old l → Came new s answer (walk (front_at (at_site old.space s) l))
 
 -- roles of terms inside which no terms stand
 abbrev pub IsFlat : Role → Type 0
@@ -126,7 +114,7 @@ IsFlat roles.Fields = Unit {0}
 IsFlat _ = ⊥
 
 -- declaring what a term declares itself
-abbrev pub Enters : Progress → Progress → RunSite → Tree → Result RunSite LoadFault → Type 0
+abbrev pub Enters : Progress → Progress → Site → Tree → Result Site LoadFault → Type 0
 Enters old new s head answer = Comes old new s answer (λ f. entered_at f head)
 
 -- what reads the terms inside a term that has so many levels
@@ -134,34 +122,35 @@ abbrev pub below : ℕ → (t : ℕ) → (code : List ℕ) → SpanReader (run_n
 below zero t code p at end f = Ok (no_trees, f)
 below (suc levels) t code p at end f = run_span_at (run_names t) code levels p at end f
 
-abbrev pub Opened : Progress → RunSite → Result Node LoadFault → Result (Tree × Front) LoadFault → Type 0
-Opened new s (Ok x) walk = (m : Listed) × Holds new m × (walk ≡ Ok (node_view x, front_of s m))
-Opened new s (Err e) walk = Fails e walk
+abbrev pub Opened : Progress → Where → Result Node LoadFault → Result (Tree × Front) LoadFault → Type 0
+Opened new w (Ok x) walk = (m : Listed) × Holds new m × (walk ≡ Ok (node_view x, front_at w m))
+Opened new w (Err e) walk = Fails e walk
 
-abbrev pub Opens : Progress → Progress → RunSite → ℕ → List ℕ → Tree → Result Node LoadFault → Type 0
-Opens old new s levels code head answer = (l : Listed) → Holds old l → Opened new s answer
-    (opened_at (run_names s.table) code (below levels s.table code) (is_block head) head (front_of s l))
+abbrev pub Opens : Progress → Progress → Site → ℕ → List ℕ → Tree → Result Node LoadFault → Type 0
+Opens old new s levels code head answer = (l : Listed) → Holds old l → Opened new (at_site old.space s) answer
+    (opened_at (run_names s.table) code (below levels s.table code) (is_block head) head (front_at (at_site old.space s) l))
 
-abbrev pub Ran : Progress → RunSite → Position → Result Term LoadFault
+abbrev pub Ran : Progress → Where → Position → Result Term LoadFault
     → Result ((Tree × Tree) × (ℕ × Front)) LoadFault → Type 0
-Ran new s p (Ok x) walk = (m : Listed) × Holds new m × (head : Tree)
-    × (walk ≡ Ok ((head, node_view x.node), (x.behind, front_of s m))) × (x.position ≡ next_position p head)
-Ran new s p (Err e) walk = Fails e walk
+Ran new w p (Ok x) walk = (m : Listed) × Holds new m × (head : Tree)
+    × (walk ≡ Ok ((head, node_view x.node), (x.behind, front_at w m))) × (x.position ≡ next_position p head)
+Ran new w p (Err e) walk = Fails e walk
 
-abbrev pub Runs : Progress → Progress → RunSite → Rest → List ℕ → Result Term LoadFault → Type 0
-Runs old new s r code answer = (l : Listed) → Holds old l → Ran new s r.position answer
-    (run_term_at (run_names s.table) code r.levels (below r.levels s.table code) r.position r.at r.end (front_of s l))
+abbrev pub Runs : Progress → Progress → Site → Rest → List ℕ → Result Term LoadFault → Type 0
+Runs old new s r code answer = (l : Listed) → Holds old l → Ran new (at_site old.space s) r.position answer
+    (run_term_at (run_names s.table) code r.levels (below r.levels s.table code) r.position r.at r.end
+    (front_at (at_site old.space s) l))
 
-abbrev pub AllRan : Progress → RunSite → Result (Vec Node Global) LoadFault → Result (Trees × Front) LoadFault → Type 0
-AllRan new s (Ok x) walk = (m : Listed) × Holds new m × (walk ≡ Ok (nodes_view x.items, front_of s m))
-AllRan new s (Err e) walk = Fails e walk
+abbrev pub AllRan : Progress → Where → Result (Vec Node Global) LoadFault → Result (Trees × Front) LoadFault → Type 0
+AllRan new w (Ok x) walk = (m : Listed) × Holds new m × (walk ≡ Ok (nodes_view x.items, front_at w m))
+AllRan new w (Err e) walk = Fails e walk
 
-abbrev pub RunsAll : Progress → Progress → RunSite → Rest → List ℕ → Result (Vec Node Global) LoadFault → Type 0
-RunsAll old new s r code answer = (l : Listed) → Holds old l → AllRan new s answer
-    (run_span_at (run_names s.table) code r.levels r.position r.at r.end (front_of s l))
+abbrev pub RunsAll : Progress → Progress → Site → Rest → List ℕ → Result (Vec Node Global) LoadFault → Type 0
+RunsAll old new s r code answer = (l : Listed) → Holds old l → AllRan new (at_site old.space s) answer
+    (run_span_at (run_names s.table) code r.levels r.position r.at r.end (front_at (at_site old.space s) l))
 
 -- a whole table
 abbrev pub RunsTable : Progress → Progress → ℕ → List ℕ → Result (Vec Node Global) LoadFault → Type 0
 RunsTable old new t code answer = (l : Listed) → Holds old l →
-    AllRan new (record { table = t; scope = []; place = length old.space.scopes; sure = true }) answer
+    AllRan new (record { table = t; scope = []; any_run = true; sure = true }) answer
     (run_table_at (run_names t) code (table_front t l))

@@ -1,14 +1,15 @@
 -- A stepping stone: what the load holds so far, and what a step of it gives, as `Loading` and `Tables` say it.
-use Rattle.std.specs.Prelude.{◌≡◌, ◌⊎◌, ◌&&◌, Bool, true, false, not, List, [], ◌∷◌, ◌++◌, Option, Some, None, Result, Ok}
+use Rattle.std.specs.Prelude.{◌≡◌, ◌⊎◌, ◌&&◌, Bool, true, false, not, List, [], ◌∷◌, ◌++◌, ◌<◌, length, Option, Some, None, Result, Ok}
 use Rattle.std.specs.Prelude.{Err, is_some, ℕ}
 use Rattle.aml_names.specs.declared.segments.Seg.{Seg}
 use Rattle.aml_space.specs.declared.faults.SpaceFault.TheVariants as faults
 use Rattle.aml_namespace.specs.declared.kinds.Kind.{Kind as KindOf}
 use Rattle.aml_namespace.specs.Kinds.{Kind, kind_in, IsAmong}
 use Rattle.aml_namespace.specs.Namespace.{Entry, declared_at}
-use Rattle.aml_namespace.specs.Known.{Known, StandsAt, StandsFor}
-use Rattle.aml_space.specs.Near.{IsOpen, IsBelow}
-use Rattle.aml_space.specs.declared.opened.PlacedPath.{PlacedPath}
+use Rattle.aml_namespace.specs.Known.{Known, StandsAt, StandsFor, path_at}
+use Rattle.aml_space.specs.declared.below.Below.{Below}
+use Rattle.aml_space.specs.Below.{path_below}
+use Rattle.std.specs.Option.{option_map}
 use Rattle.aml_load.specs.declared.faults.LoadFault.{LoadFault}
 use Rattle.aml_load.specs.declared.faults.LoadFault.TheVariants as loads
 use Rattle.aml_load.specs.declared.uses.Site.{Site}
@@ -22,9 +23,9 @@ use Rattle.aml_set.specs.declared.tables.Table.{Table}
 use Rattle.aml_set.specs.Methods.{methods_in, AreNumbered}
 use Rattle.aml_set.specs.Views.{table_dumps, table_codes, table_terms}
 
--- where a site is
-abbrev pub at_site : Site → Where
-at_site s = record { table = s.table; scope = s.scope.now; any_run = s.any_run; sure = s.sure }
+-- where a site is, by the paths that have numbers
+abbrev pub at_site : Known → Site → Where
+at_site k s = record { table = s.table; scope = path_at k s.scope; any_run = s.any_run; sure = s.sure }
 
 -- whether an entry of a path may be added there, as the definition says it of any entry
 abbrev pub IsFree : Where → List Entry → List Seg → Result (Unit {0}) LoadFault → Type 0
@@ -47,6 +48,10 @@ IsDeclared site es p x old new (Err e) = IsFree site es p (Err e)
 abbrev pub source_paths : Option (List Seg) → List (List Seg)
 source_paths None = []
 source_paths (Some p) = p ∷ []
+
+-- that path, by the paths that have numbers
+abbrev pub source_path : List (List Seg) → Option Below → Option (List Seg)
+source_path paths source = option_map (path_below paths) source
 
 -- whether a path is declared at a site in every run, and if it is an Alias, what it is declared of
 abbrev pub sure_of : Where → List Entry → List Seg → Option (List Seg) → Bool
@@ -98,17 +103,20 @@ TablesRead old now new (Ok u) walk = (table_dumps now ≡ table_dumps old) × (t
     × ((m : Listed) × Holds new m × (walk ≡ Ok (table_terms now, m)))
 TablesRead old now new (Err e) walk = Fails e walk
 
--- ---- The scopes that are open.
+-- ---- Numbers of paths.
 
--- the scope of a site is open at its place
+-- the scope of a site has a number
 abbrev pub IsInside : Progress → Site → Type 0
-IsInside p s = IsOpen p.space.scopes s.place s.scope.now
+IsInside p s = s.scope < length p.space.paths
 
--- the same scopes are open
+-- each number stands for its path still
 abbrev pub Stays : Progress → Progress → Type 0
-Stays old new = new.space.scopes ≡ old.space.scopes
+Stays old new = KeepsPaths old.space new.space
 
--- a path that was answered begins with as many segments of a scope as it says
-abbrev pub AreBelow : Result PlacedPath LoadFault → List Seg → Type 0
-AreBelow (Ok p) scope = IsBelow p.front scope p.path
-AreBelow (Err e) scope = Unit {0}
+-- a path that was answered begins with that of a number
+abbrev pub IsBelow : Known → Below → Type 0
+IsBelow k b = b.above < length k.paths
+
+abbrev pub AreBelow : Known → Result Below LoadFault → Type 0
+AreBelow k (Ok b) = IsBelow k b
+AreBelow k (Err e) = Unit {0}

@@ -7,7 +7,6 @@
 mod bodies;
 mod faults;
 mod groups;
-mod keeping;
 mod laws;
 mod loading;
 mod roles;
@@ -22,5 +21,5 @@ pub use bodies::{read_body, read_span, tell_span};
 pub use faults::LoadFault;
 pub use laws::{loads_forward, loads_in_text_order, loads_one_way, loads_strictly};
 pub use loading::{load, load_any_run, load_tables};
-pub use standing::{StandingTerm, standing_terms};
+pub use standing::{StandingTerm, StandingTerms, standing_terms};
 pub use standing_laws::terms_stand_as_declared;

@@ -43,19 +43,13 @@ fn load_whole_table(
         Ok(terms) => terms,
         Err(fault) => return Err(LoadFault::in_code(table, fault)),
     };
-    let place = progress.space.open_scopes();
-    let root = progress.open_root()?;
-    progress.walk_all(
-        &Site {
-            table,
-            scope: &root,
-            place,
-            any_run: false,
-            sure: true,
-        },
-        terms.as_slice(),
-    )?;
-    progress.close_scopes(place);
+    let root = Site {
+        table,
+        scope: progress.space.root(),
+        any_run: false,
+        sure: true,
+    };
+    progress.walk_all(&root, terms.as_slice())?;
     Ok(terms)
 }
 

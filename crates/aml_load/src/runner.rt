@@ -6,17 +6,16 @@ ghost use Rattle.std.specs.Option.{option_copied, option_and_then};
 ghost use Rattle.std.specs.FinSet as set;
 ghost use Rattle.aml_namespace.specs.Namespace.{namespace_of, found};
 ghost use Rattle.aml_namespace.specs.Known.{StandsFor};
-ghost use Rattle.aml_space.specs.Near.{IsBelow};
+ghost use Rattle.aml_space.specs.Below.{path_below};
+ghost use Rattle.aml_namespace.specs.Known.{StandsAt, path_at};
 ghost use Rattle.aml_load.specs.Declaring.{Listed, declare_as};
 ghost use Rattle.aml_load.specs.Running.{opened_at, object_at, scope_at, enter_as};
 ghost use Rattle.aml_namespace.specs.Kinds.{kind_in};
 ghost use Rattle.aml_load.specs.Walking.{at_site, GivesIn, Walks, Holds, IsInside, Stays, AreBelow, IsPlain};
-ghost use Rattle.aml_load.specs.Runner.{IsFlat, IsSite, Comes, opens, span_inside, with_terms, HasRoom};
-ghost use Rattle.aml_load.specs.Runner.{run_site, IsWithin, IsEntered};
+ghost use Rattle.aml_load.specs.Runner.{IsFlat, IsSiteOf, Comes, opens, span_inside, with_terms, HasRoom};
 ghost use Rattle.aml_load.specs.Runner.{HasRoomInside, IsOn, IsThere, Steps, Enters, Opens, Runs, RunsAll, RunsTable};
 
 use crate::faults::LoadFault;
-use crate::keeping::most_kept_in;
 use crate::roles::{kind_of, role_of};
 use crate::uses::Site;
 use crate::walking::Progress;
@@ -24,87 +23,43 @@ use aml_code::{
     Arity, Locals, Name, NoMemory, Node, Part, Position, Role, Tail, TailKind, last_name,
     listed_row,
 };
-use aml_names::ScopedPath;
 use aml_parse::{next_position, read_step};
-use aml_space::{BodyNames, Kind, PathId, PlacedPath, SpaceFault};
+use aml_space::{Below, BodyNames, Kind, PathId, SpaceFault};
 use std::alloc::Global;
 
 /// The most levels of terms inside each other.
 const MOST_LEVELS: u16 = 512;
 
-/// Where a term of a table stands whose code outside methods may run.
-#[derive(Drop)]
-pub struct RunSite {
-    /// The table, by its place in load order from 0 on.
-    pub table: usize,
-    pub scope: ScopedPath,
-    /// The place of the scope among those that are open.
-    pub place: usize,
-    /// Whether what the term declares is declared in every run.
-    pub sure: bool,
-}
-
-impl RunSite {
-    /// The same, as a site.
-    pub fn site(&self) -> Site<'_>
-        ensures site { at_site result ≡ run_site self.now }
-        ensures place { result.place ≡ self.now.place }
-        ensures scope { result.scope.now ≡ self.now.scope }
-    {
-        Site {
-            table: self.table,
-            scope: &self.scope,
-            place: self.place,
-            any_run: true,
-            sure: self.sure,
-        }
-    }
-
-    /// Under a path, which is opened, and in which so many paths are kept at most.
+impl Site {
+    /// Under a path, which has a number from now on.
     fn under(
         &self,
         progress: &mut Progress,
-        path: &PlacedPath,
+        path: &Below<'_>,
         sure: bool,
-        most: usize,
-    ) -> Result<RunSite, LoadFault>
-        requires inside { IsWithin progress.old self.now }
-        requires below { IsBelow path.now.front self.now.scope path.now.path }
-        ensures site { IsSite result (record {
-          table = self.now.table;
-          scope = path.now.path;
-          place = length progress.old.space.scopes;
-          sure = sure;
-        }) }
-        ensures holds { OnOk result ((l : Listed) → Holds progress.old l → Holds progress.new l) }
-        ensures opens { IfOk result (λ inner. IsEntered progress.old.space.scopes progress.new inner) }
+    ) -> Result<Site, LoadFault>
+        ensures site { IsSiteOf result (λ scope. record self.now { scope = scope; sure = sure }) }
+        ensures at { IfOk result (λ inner. StandsAt progress.new.space inner.scope
+            (path_below progress.old.space.paths path.now)) }
+        ensures holds { (l : Listed) → Holds progress.old l → Holds progress.new l }
+        ensures stays { Stays progress.old progress.new }
     {
-        let place = progress.space.open_scopes();
-        let scope = progress.open_scope(&self.site(), path, most)?;
-        Ok(RunSite {
-            table: self.table,
+        let scope = progress.number(path)?;
+        Ok(Site {
             scope,
-            place,
             sure,
+            ..*self
         })
     }
 
     /// In the same scope, as surely as here if this holds.
-    fn also(&self, sure: bool) -> Result<RunSite, LoadFault>
-        ensures { IsSite result (record {
-          table = self.now.table;
-          scope = self.now.scope;
-          place = self.now.place;
-          sure = self.now.sure && sure;
-        }) }
+    fn also(&self, sure: bool) -> Site
+        ensures { result ≡ record self.now { sure = self.now.sure && sure } }
     {
-        let scope = self.scope.clone()?;
-        Ok(RunSite {
-            table: self.table,
-            scope,
-            place: self.place,
+        Site {
             sure: self.sure && sure,
-        })
+            ..*self
+        }
     }
 }
 
@@ -201,21 +156,16 @@ fn with_terms(head: Node, terms: Vec<Node>) -> Node
 
 impl Progress {
     /// The term that stands there, without the terms inside it, and the offset behind it. Each name in it is searched.
-    fn read_head(
-        &mut self,
-        site: &RunSite,
-        rest: Rest,
-        code: &[u8],
-    ) -> Result<(Node, u32), LoadFault>
+    fn read_head(&mut self, site: &Site, rest: Rest, code: &[u8]) -> Result<(Node, u32), LoadFault>
         requires room { HasRoom code.now rest }
-        requires inside { IsWithin self.old site.now }
+        requires inside { IsInside self.old site.now }
         ensures there { IfOk result (λ x. IsThere code.now rest (node_view x.0) x.1) }
         ensures step { Steps self.old site.now rest code.now result }
         ensures same { self.new ≡ self.old }
     {
-        self.space.expect_search(site.scope.parts().len());
+        self.space.expect_search(site.scope);
         let names = RunNames {
-            names: BodyNames::near(&self.space, site.site().near(), site.scope.parts(), false),
+            names: BodyNames::numbered(&self.space, site.scope, false),
         };
         match read_step(
             self.alloc,
@@ -232,37 +182,33 @@ impl Progress {
     }
 
     /// Whether some table names what a name may mean.
-    fn is_known(&self, site: &Site<'_>, name: Option<&Name>) -> Result<bool, NoMemory>
-        requires { IsInside self.now site.now }
+    fn is_known(&self, site: &Site, name: &Name) -> Result<bool, NoMemory>
         ensures { (l : Listed) → StandsFor self.now.space l.entries → IfOk result (λ b. b
-            ≡ is_some (option_and_then (found (namespace_of l.entries) set.empty site.now.scope.now)
-            (option_copied name.entry))) }
+            ≡ is_some (found (namespace_of l.entries) set.empty (path_at self.now.space site.now.scope) name.now)) }
     {
-        match name {
-            None => Ok(false),
-            Some(name) => {
-                let path = self
-                    .space
-                    .find_scoped(self.alloc, site.near(), site.scope, name)?;
-                Ok(path.is_some())
-            }
-        }
+        let above = self.space.find_from(site.scope, name)?;
+        Ok(above.is_some())
     }
 
     /// The path that a Scope opens. `ScopeMissing` where runs may differ.
-    #[tactic(auto, unfolding(crate::specs::Running::opened_at))]
-    fn opened_path(&self, site: &Site<'_>, name: Option<&Name>) -> Result<PlacedPath, LoadFault>
-        requires { IsInside self.now site.now }
-        ensures below { AreBelow result site.now.scope.now }
-        ensures gives { GivesIn (λ p. p.path) self.now.space result (λ l.
-            opened_at (at_site site.now) l.entries (option_copied name.entry)) }
+    #[tactic(auto, unfolding(crate::specs::Running::opened_at, crate::specs::Declaring::place_at))]
+    fn opened_path<'n>(&self, site: &Site, name: Option<&'n Name>) -> Result<Below<'n>, LoadFault>
+        ensures below { AreBelow self.now.space result }
+        ensures gives { GivesIn (path_below self.now.space.paths) self.now.space result (λ l.
+            opened_at (at_site self.now.space site.now) l.entries (option_copied name.entry)) }
     {
-        let path = self.own_path(site, name)?;
-        match self.found_path(site, name)? {
-            Some(led) => Ok(led),
+        let Some(name) = name else {
+            return Err(LoadFault::Space(site.table, SpaceFault::AboveRoot));
+        };
+        let path = self.placed_path(site, name)?;
+        match self.found_above(site, name)? {
+            Some(above) => Ok(Below {
+                above,
+                segs: name.segs.as_slice(),
+            }),
             None => {
                 if self.is_known(site, name)? {
-                    let missing = SpaceFault::ScopeMissing(path.path.to_path(self.alloc)?);
+                    let missing = SpaceFault::ScopeMissing(self.space.to_path(&path)?);
                     Err(LoadFault::Space(site.table, missing))
                 } else {
                     Ok(path)
@@ -275,61 +221,50 @@ impl Progress {
     #[tactic(auto, unfolding(crate::specs::Running::object_at))]
     fn enter_object(
         &mut self,
-        here: &RunSite,
+        here: &Site,
         name: Option<&Name>,
         kind: Kind<PathId>,
-        tail: &Tail,
-    ) -> Result<RunSite, LoadFault>
-        requires within { IsWithin self.old here.now }
+    ) -> Result<Site, LoadFault>
+        requires within { IsInside self.old here.now }
         requires plain { IsPlain kind (kind_in [] kind) }
         ensures comes { Comes self.old self.new here.now result (λ f.
             object_at f (option_copied name.entry) (kind_in [] kind)) }
-        ensures opens { IfOk result (λ inner. IsEntered self.old.space.scopes self.new inner) }
+        ensures within { IfOk result (IsInside self.new) }
+        ensures stays { OnOk result (Stays self.old self.new) }
     {
-        let site = here.site();
-        let path = self.own_path(&site, name)?;
-        let declared = self
-            .space
-            .is_declared(path.near(site.place), &path.path.parts());
-        let sure = self.is_sure_here(&site, &path, None) && !declared;
-        self.declare(&site, &path, kind)?;
-        here.under(self, &path, sure, most_kept_in(&path.path, tail))
+        let path = self.own_path(here, name)?;
+        let declared = self.space.is_declared(&path);
+        let sure = self.is_sure_here(here, &path, None) && !declared;
+        self.declare(here, &path, kind)?;
+        here.under(self, &path, sure)
     }
 
     /// Opens the path of a Scope.
     #[tactic(auto, unfolding(crate::specs::Running::scope_at))]
-    fn enter_scope(
-        &mut self,
-        here: &RunSite,
-        name: Option<&Name>,
-        tail: &Tail,
-    ) -> Result<RunSite, LoadFault>
-        requires { IsWithin self.old here.now }
+    fn enter_scope(&mut self, here: &Site, name: Option<&Name>) -> Result<Site, LoadFault>
+        requires { IsInside self.old here.now }
         ensures comes { Comes self.old self.new here.now result (λ f. scope_at f (option_copied name.entry)) }
-        ensures opens { IfOk result (λ inner. IsEntered self.old.space.scopes self.new inner) }
+        ensures within { IfOk result (IsInside self.new) }
+        ensures stays { OnOk result (Stays self.old self.new) }
     {
-        let site = here.site();
-        self.expect_search(&site, name);
-        let path = self.opened_path(&site, name)?;
-        let sure = here.sure
-            && self
-                .space
-                .is_scope(path.near(site.place), &path.path.parts());
-        here.under(self, &path, sure, most_kept_in(&path.path, tail))
+        self.expect_search(here, name);
+        let path = self.opened_path(here, name)?;
+        let sure = here.sure && self.space.is_scope(&path);
+        here.under(self, &path, sure)
     }
 
     /// Does what the role of a term does that opens nothing.
     #[tactic(auto, unfolding(crate::specs::Declaring::declare_as))]
     fn declare_flat(
         &mut self,
-        site: &Site<'_>,
+        site: &Site,
         role: Role,
         parts: &[Part],
         tail: &Tail,
     ) -> Result<(), LoadFault>
         requires { IsInside self.old site.now }
         ensures walks { IsFlat role → Walks self.old self.new result (λ l.
-            declare_as role (at_site site.now) l (parts_view parts.now) (tail_view tail.now) (λ l below. Ok l)) }
+            declare_as role (at_site self.old.space site.now) l (parts_view parts.now) (tail_view tail.now) (λ l below. Ok l)) }
         ensures stays { OnOk result (Stays self.old self.new) }
     {
         match role {
@@ -347,43 +282,39 @@ impl Progress {
     /// Does what the role of a term does that opens nothing, and stays where it is.
     fn enter_flat(
         &mut self,
-        here: &RunSite,
+        here: &Site,
         role: Role,
         parts: &[Part],
         tail: &Tail,
-    ) -> Result<RunSite, LoadFault>
-        requires { IsWithin self.old here.now }
+    ) -> Result<Site, LoadFault>
+        requires { IsInside self.old here.now }
         ensures comes { IsFlat role → Comes self.old self.new here.now result (λ f.
             enter_as role f (parts_view parts.now) (tail_view tail.now)) }
-        ensures opens { IfOk result (λ inner. IsEntered self.old.space.scopes self.new inner) }
+        ensures within { IfOk result (IsInside self.new) }
+        ensures stays { OnOk result (Stays self.old self.new) }
     {
-        let site = here.site();
-        self.declare_flat(&site, role, parts, tail)?;
-        here.also(true)
+        self.declare_flat(here, role, parts, tail)?;
+        Ok(here.also(true))
     }
 
     /// Does what the role of a term does.
     fn enter_role(
         &mut self,
-        here: &RunSite,
+        here: &Site,
         role: Role,
         parts: &[Part],
         tail: &Tail,
-    ) -> Result<RunSite, LoadFault>
-        requires { IsWithin self.old here.now }
+    ) -> Result<Site, LoadFault>
+        requires { IsInside self.old here.now }
         ensures comes { Comes self.old self.new here.now result (λ f.
             enter_as role f (parts_view parts.now) (tail_view tail.now)) }
-        ensures opens { IfOk result (λ inner. IsEntered self.old.space.scopes self.new inner) }
+        ensures within { IfOk result (IsInside self.new) }
+        ensures stays { OnOk result (Stays self.old self.new) }
     {
         match role {
-            Role::Declares(object) => self.enter_object(
-                here,
-                last_name(parts),
-                kind_of(object),
-                tail,
-            ),
-            Role::Scope => self.enter_scope(here, last_name(parts), tail),
-            Role::Guard | Role::Other => here.also(false),
+            Role::Declares(object) => self.enter_object(here, last_name(parts), kind_of(object)),
+            Role::Scope => self.enter_scope(here, last_name(parts)),
+            Role::Guard | Role::Other => Ok(here.also(false)),
             _ => self.enter_flat(here, role, parts, tail),
         }
     }
@@ -392,14 +323,15 @@ impl Progress {
 impl Progress {
     /// Declares what a term declares itself, and says where the terms inside it stand.
     #[tactic(auto, unfolding(crate::specs::Running::entered_at))]
-    pub fn enter(&mut self, site: &RunSite, head: &Node) -> Result<RunSite, LoadFault>
-        requires { IsWithin self.old site.now }
+    pub fn enter(&mut self, site: &Site, head: &Node) -> Result<Site, LoadFault>
+        requires { IsInside self.old site.now }
         ensures comes { Enters self.old self.new site.now (node_view head.now) result }
-        ensures opens { IfOk result (λ inner. IsEntered self.old.space.scopes self.new inner) }
+        ensures within { IfOk result (IsInside self.new) }
+        ensures stays { OnOk result (Stays self.old self.new) }
     {
-        self.ask(&site.site(), head)?;
+        self.ask(site, head)?;
         match head {
-            Node::Nothing | Node::Named { .. } => site.also(true),
+            Node::Nothing | Node::Named { .. } => Ok(site.also(true)),
             Node::Op {
                 opcode,
                 parts,
@@ -413,13 +345,13 @@ impl Progress {
     #[cycle(runs)]
     fn open(
         &mut self,
-        inner: &RunSite,
+        inner: &Site,
         levels: u16,
         code: &[u8],
         head: Node,
     ) -> Result<Node, LoadFault>
         requires room { HasRoomInside code.now levels (node_view head) }
-        requires inside { IsWithin self.old inner.now }
+        requires inside { IsInside self.old inner.now }
         ensures opens { Opens self.old self.new inner.now levels code.now (node_view head) result }
         ensures stays { OnOk result (Stays self.old self.new) }
     {
@@ -441,19 +373,17 @@ impl Progress {
     /// The first term of a span: what it and the terms inside it declare is declared.
     #[cycle(runs)]
     #[tactic(auto, unfolding(aml_parse::specs::Running::run_term_at))]
-    fn run_term(&mut self, site: &RunSite, rest: Rest, code: &[u8]) -> Result<Term, LoadFault>
+    fn run_term(&mut self, site: &Site, rest: Rest, code: &[u8]) -> Result<Term, LoadFault>
         requires room { HasRoom code.now rest }
-        requires inside { IsWithin self.old site.now }
+        requires inside { IsInside self.old site.now }
         ensures bounds { IfOk result (λ x. IsOn rest x) }
         ensures term { Runs self.old self.new site.now rest code.now result }
         ensures stays { OnOk result (Stays self.old self.new) }
     {
-        let open = self.space.open_scopes();
         let (head, behind) = self.read_head(site, rest, code)?;
         let inner = self.enter(site, &head)?;
         let position = next_position(rest.position, &head);
         let node = self.open(&inner, rest.levels, code, head)?;
-        self.close_scopes(open);
         Ok(Term {
             node,
             position,
@@ -465,12 +395,12 @@ impl Progress {
     #[cycle(runs)]
     pub fn run_terms(
         &mut self,
-        site: &RunSite,
+        site: &Site,
         rest: Rest,
         code: &[u8],
     ) -> Result<Vec<Node>, LoadFault>
         requires room { HasRoom code.now rest }
-        requires inside { IsWithin self.old site.now }
+        requires inside { IsInside self.old site.now }
         ensures runs { RunsAll self.old self.new site.now rest code.now result }
         ensures stays { OnOk result (Stays self.old self.new) }
     {
@@ -497,11 +427,10 @@ impl Progress {
         requires { length code.now ≤ 16777216 }
         ensures { RunsTable self.old self.new table code.now result }
     {
-        let place = self.space.open_scopes();
-        let root = RunSite {
+        let root = Site {
             table,
-            scope: self.open_root()?,
-            place,
+            scope: self.space.root(),
+            any_run: true,
             sure: true,
         };
         let whole = Rest {
@@ -510,8 +439,6 @@ impl Progress {
             at: 0,
             end: code.len() as u32,
         };
-        let terms = self.run_terms(&root, whole, code)?;
-        self.close_scopes(place);
-        Ok(terms)
+        self.run_terms(&root, whole, code)
     }
 }

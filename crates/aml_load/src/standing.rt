@@ -1,61 +1,79 @@
 //! The terms of a loaded set outside the methods' bodies, each where it stands.
-ghost use Rattle.std.specs.Prelude.{◌≡◌, ◌⊎◌, ◌++◌, ◌∷◌, [], List, ℕ, Bool, Ok, IfOk, IfErr, OnOk, length, true};
+ghost use Rattle.std.specs.Prelude.{◌≡◌, ◌⊎◌, ◌++◌, ◌∷◌, ◌<◌, [], List, ℕ, Bool, Ok, IfOk, IfErr, OnOk, length, true};
 ghost use Rattle.aml_code.specs.View.{node_view, nodes_view, parts_view, tail_view};
 ghost use Rattle.aml_namespace.specs.Namespace.{Entry};
 ghost use Rattle.aml_set.specs.Views.{trees_view};
 ghost use Rattle.aml_load.specs.Declaring.{Listed, first_listed, strict, declare_as, declare, declare_inside};
 ghost use Rattle.aml_load.specs.Declaring.{declare_all, under};
-ghost use Rattle.aml_load.specs.Runner.{IsWithin};
 ghost use Rattle.aml_load.specs.Running.{behind_tree, behind_inside, behind_trees, behind_tables};
 ghost use Rattle.aml_load.specs.Standing.{stands, inside_as, term_stands, inside_stand, all_stand, set_stands};
 ghost use Rattle.aml_load.specs.Standing.{tables_stand, run_term_stands, run_inside_stand, run_all_stand};
 ghost use Rattle.aml_load.specs.Standing.{run_tables_stand, stand_by};
-ghost use Rattle.aml_load.specs.Standings.{standings_view, Finds, Found, declare_tables, declares_by, set_declares};
+ghost use Rattle.aml_load.specs.Standings.{standings_view, AreStanding, Finds, Found, declare_tables, declares_by, set_declares};
 ghost use Rattle.aml_load.specs.Standings.{FindsRun, behind_within, within_stand};
 ghost use Rattle.aml_load.specs.Loading.{LoadsTo};
 ghost use Rattle.aml_load.specs.Tables.{Fails};
-ghost use Rattle.aml_load.specs.Walking.{at_site, Holds, IsInside, Stays};
-ghost use Rattle.aml_space.specs.Near.{IsBelow};
+ghost use Rattle.aml_load.specs.Walking.{at_site, Holds, IsInside, IsBelow, Stays};
+ghost use Rattle.aml_namespace.specs.Known.{Known};
+ghost use Rattle.aml_space.specs.Below.{path_below};
 
 use crate::faults::LoadFault;
 use crate::loading::first_progress;
 use crate::roles::{kind_of, role_of};
-use crate::runner::RunSite;
 use crate::uses::Site;
 use crate::walking::Progress;
 use aml_code::{NoMemory, Node, Part, Path, Role, Tail, last_name};
-use aml_names::{ArgumentCount, ScopedPath};
-use aml_space::PlacedPath;
+use aml_names::ArgumentCount;
+use aml_space::{Below, PathId, Space};
 use std::alloc::Global;
 
 /// A term of a table outside the methods' bodies, and where it stands.
-#[derive(Drop)]
+#[derive(Clone, Copy)]
 pub struct StandingTerm<'a> {
     /// The table, by its place in load order from 0 on.
     pub table: usize,
-    /// The scope in which it stands.
-    pub scope: ScopedPath,
+    /// The number of the scope in which it stands.
+    scope: u32,
     /// Whether it stands there in every run of the code outside methods. Where that code may not run, each does.
     pub sure: bool,
     pub term: &'a Node,
 }
 
+impl StandingTerm<'_> {
+    /// The scope in which it stands, by its number in the space of the terms.
+    pub fn scope(&self) -> PathId
+        ensures { result ≡ self.now.scope }
+    {
+        PathId::new(self.scope as usize)
+    }
+}
+
+/// Terms outside the methods' bodies, and the space by which the numbers of their scopes are read.
+#[derive(Drop)]
+pub struct StandingTerms<'a> {
+    /// What the tables of the terms declare.
+    pub space: Space,
+    pub terms: Vec<StandingTerm<'a>>,
+}
+
 /// Adds a term.
 fn add_term<'a>(
-    site: &Site<'_>,
+    site: &Site,
     term: &'a Node,
     found: &mut Vec<StandingTerm<'a>>,
 ) -> Result<(), NoMemory>
-    ensures { OnOk result (standings_view found.new.items ≡ standings_view found.old.items ++
-        stands (at_site site.now) (node_view term.now) ∷ []) }
+    ensures found { (k : Known) → OnOk result (standings_view k found.new.items ≡ standings_view k found.old.items ++
+        stands (at_site k site.now) (node_view term.now) ∷ []) }
+    ensures numbered { (k : Known) → site.now.scope < length k.paths → AreStanding k found.old.items →
+        OnOk result (AreStanding k found.new.items) }
 {
-    let scope = site.scope.clone()?;
-    found.push(StandingTerm {
+    let standing = StandingTerm {
         table: site.table,
-        scope,
+        scope: site.scope.index() as u32,
         sure: site.sure,
         term,
-    })?;
+    };
+    found.push(standing)?;
     Ok(())
 }
 
@@ -64,14 +82,14 @@ fn add_term<'a>(
 #[tactic(auto, unfolding(crate::specs::Declaring::declare, crate::specs::Standing::term_stands))]
 fn find_term<'a>(
     progress: &mut Progress,
-    site: &Site<'_>,
+    site: &Site,
     term: &'a Node,
     found: &mut Vec<StandingTerm<'a>>,
 ) -> Result<(), LoadFault>
     requires { IsInside progress.old site.now }
     ensures finds { Finds progress.old progress.new found.old.items found.new.items result
-        (λ l. declare (at_site site.now) l (node_view term.now))
-        (λ l. term_stands (at_site site.now) l (node_view term.now)) }
+        (λ l. declare (at_site progress.old.space site.now) l (node_view term.now))
+        (λ l. term_stands (at_site progress.old.space site.now) l (node_view term.now)) }
     ensures stays { OnOk result (Stays progress.old progress.new) }
 {
     add_term(site, term, found)?;
@@ -101,7 +119,7 @@ fn find_term<'a>(
 #[tactic(auto, unfolding(crate::specs::Declaring::declare_as, crate::specs::Standing::inside_as))]
 fn find_by_role<'a>(
     progress: &mut Progress,
-    site: &Site<'_>,
+    site: &Site,
     role: Role,
     tail: &'a Tail,
     parts: &[Part],
@@ -109,9 +127,9 @@ fn find_by_role<'a>(
 ) -> Result<(), LoadFault>
     requires { IsInside progress.old site.now }
     ensures finds { Finds progress.old progress.new found.old.items found.new.items result
-        (λ l. declare_as role (at_site site.now) l (parts_view parts.now) (tail_view tail.now)
+        (λ l. declare_as role (at_site progress.old.space site.now) l (parts_view parts.now) (tail_view tail.now)
         (λ l below. declare_inside below l (tail_view tail.now)))
-        (λ l. inside_as role (at_site site.now) l (parts_view parts.now)
+        (λ l. inside_as role (at_site progress.old.space site.now) l (parts_view parts.now)
         (λ l below. inside_stand below l (tail_view tail.now))) }
     ensures stays { OnOk result (Stays progress.old progress.new) }
 {
@@ -135,46 +153,24 @@ fn find_by_role<'a>(
     }
 }
 
-/// How many terms stand right inside a term, each of which keeps its scope.
-fn terms_in(tail: &Tail) -> usize {
-    match tail {
-        Tail::Terms(terms) => terms.len(),
-        _ => 0,
-    }
-}
-
 /// Finds the terms inside a term, whose scope is this path.
 #[cycle(find)]
 fn find_below<'a>(
     progress: &mut Progress,
-    site: &Site<'_>,
-    path: &PlacedPath,
+    site: &Site,
+    path: &Below<'_>,
     tail: &'a Tail,
     found: &mut Vec<StandingTerm<'a>>,
 ) -> Result<(), LoadFault>
     requires inside { IsInside progress.old site.now }
-    requires below { IsBelow path.now.front site.now.scope.now path.now.path }
+    requires below { IsBelow progress.old.space path.now }
     ensures finds { Finds progress.old progress.new found.old.items found.new.items result
-        (λ l. declare_inside (under (at_site site.now) path.now.path) l (tail_view tail.now))
-        (λ l. inside_stand (under (at_site site.now) path.now.path) l (tail_view tail.now)) }
+        (λ l. declare_inside (under (at_site progress.old.space site.now) (path_below progress.old.space.paths path.now)) l (tail_view tail.now))
+        (λ l. inside_stand (under (at_site progress.old.space site.now) (path_below progress.old.space.paths path.now)) l (tail_view tail.now)) }
     ensures stays { OnOk result (Stays progress.old progress.new) }
 {
-    let place = progress.space.open_scopes();
-    let scope = progress.open_scope(site, path, terms_in(tail))?;
-    find_inside(
-        progress,
-        &Site {
-            table: site.table,
-            scope: &scope,
-            place,
-            any_run: site.any_run,
-            sure: site.sure,
-        },
-        tail,
-        found,
-    )?;
-    progress.close_scopes(place);
-    Ok(())
+    let scope = progress.number(path)?;
+    find_inside(progress, &Site { scope, ..*site }, tail, found)
 }
 
 /// Finds the terms inside a term.
@@ -182,14 +178,14 @@ fn find_below<'a>(
 #[tactic(auto, unfolding(crate::specs::Declaring::declare_inside, crate::specs::Standing::inside_stand))]
 fn find_inside<'a>(
     progress: &mut Progress,
-    site: &Site<'_>,
+    site: &Site,
     tail: &'a Tail,
     found: &mut Vec<StandingTerm<'a>>,
 ) -> Result<(), LoadFault>
     requires { IsInside progress.old site.now }
     ensures finds { Finds progress.old progress.new found.old.items found.new.items result
-        (λ l. declare_inside (at_site site.now) l (tail_view tail.now))
-        (λ l. inside_stand (at_site site.now) l (tail_view tail.now)) }
+        (λ l. declare_inside (at_site progress.old.space site.now) l (tail_view tail.now))
+        (λ l. inside_stand (at_site progress.old.space site.now) l (tail_view tail.now)) }
     ensures stays { OnOk result (Stays progress.old progress.new) }
 {
     match tail {
@@ -203,14 +199,14 @@ fn find_inside<'a>(
 #[tactic(auto, unfolding(crate::specs::Declaring::declare_all, crate::specs::Standing::all_stand))]
 fn find_terms<'a>(
     progress: &mut Progress,
-    site: &Site<'_>,
+    site: &Site,
     terms: &'a [Node],
     found: &mut Vec<StandingTerm<'a>>,
 ) -> Result<(), LoadFault>
     requires { IsInside progress.old site.now }
     ensures finds { Finds progress.old progress.new found.old.items found.new.items result
-        (λ l. declare_all (at_site site.now) l (nodes_view terms.now))
-        (λ l. all_stand (at_site site.now) l (nodes_view terms.now)) }
+        (λ l. declare_all (at_site progress.old.space site.now) l (nodes_view terms.now))
+        (λ l. all_stand (at_site progress.old.space site.now) l (nodes_view terms.now)) }
     ensures stays { OnOk result (Stays progress.old progress.new) }
 {
     for term in terms {
@@ -230,22 +226,13 @@ fn find_table<'a>(
         (λ l. declare_all (strict table []) l (nodes_view terms.now))
         (λ l. all_stand (strict table []) l (nodes_view terms.now)) }
 {
-    let place = progress.space.open_scopes();
-    let root = progress.open_root()?;
-    find_terms(
-        progress,
-        &Site {
-            table,
-            scope: &root,
-            place,
-            any_run: false,
-            sure: true,
-        },
-        terms,
-        found,
-    )?;
-    progress.close_scopes(place);
-    Ok(())
+    let root = Site {
+        table,
+        scope: progress.space.root(),
+        any_run: false,
+        sure: true,
+    };
+    find_terms(progress, &root, terms, found)
 }
 
 /// Finds the terms of all tables.
@@ -269,20 +256,18 @@ fn find_tables<'a>(
 #[cycle(find_run)]
 fn find_run_term<'a>(
     progress: &mut Progress,
-    site: &RunSite,
+    site: &Site,
     term: &'a Node,
     found: &mut Vec<StandingTerm<'a>>,
 ) -> Result<(), LoadFault>
-    requires { IsWithin progress.old site.now }
-    ensures finds { FindsRun progress.old progress.new site.now found.old.items found.new.items result
+    requires { IsInside progress.old site.now }
+    ensures finds { FindsRun progress.old progress.new (at_site progress.old.space site.now) found.old.items found.new.items result
         (λ f. behind_tree f (node_view term.now)) (λ f. run_term_stands f (node_view term.now)) }
     ensures stays { OnOk result (Stays progress.old progress.new) }
 {
-    add_term(&site.site(), term, found)?;
-    let place = progress.space.open_scopes();
+    add_term(site, term, found)?;
     let inner = progress.enter(site, term)?;
     find_run_inside(progress, &inner, term, found)?;
-    progress.close_scopes(place);
     Ok(())
 }
 
@@ -291,12 +276,12 @@ fn find_run_term<'a>(
 #[tactic(auto, unfolding(crate::specs::Running::behind_inside, crate::specs::Standing::run_inside_stand))]
 fn find_run_inside<'a>(
     progress: &mut Progress,
-    site: &RunSite,
+    site: &Site,
     term: &'a Node,
     found: &mut Vec<StandingTerm<'a>>,
 ) -> Result<(), LoadFault>
-    requires { IsWithin progress.old site.now }
-    ensures finds { FindsRun progress.old progress.new site.now found.old.items found.new.items result
+    requires { IsInside progress.old site.now }
+    ensures finds { FindsRun progress.old progress.new (at_site progress.old.space site.now) found.old.items found.new.items result
         (λ f. behind_within f (node_view term.now)) (λ f. within_stand f (node_view term.now)) }
     ensures stays { OnOk result (Stays progress.old progress.new) }
 {
@@ -314,12 +299,12 @@ fn find_run_inside<'a>(
 #[tactic(auto, unfolding(crate::specs::Running::behind_trees, crate::specs::Standing::run_all_stand))]
 fn find_run_terms<'a>(
     progress: &mut Progress,
-    site: &RunSite,
+    site: &Site,
     terms: &'a [Node],
     found: &mut Vec<StandingTerm<'a>>,
 ) -> Result<(), LoadFault>
-    requires { IsWithin progress.old site.now }
-    ensures finds { FindsRun progress.old progress.new site.now found.old.items found.new.items result
+    requires { IsInside progress.old site.now }
+    ensures finds { FindsRun progress.old progress.new (at_site progress.old.space site.now) found.old.items found.new.items result
         (λ f. behind_trees f (nodes_view terms.now)) (λ f. run_all_stand f (nodes_view terms.now)) }
     ensures stays { OnOk result (Stays progress.old progress.new) }
 {
@@ -337,20 +322,17 @@ fn find_run_table<'a>(
     found: &mut Vec<StandingTerm<'a>>,
 ) -> Result<(), LoadFault>
     ensures { FindsRun progress.old progress.new
-        (record { table = table; scope = []; place = length progress.old.space.scopes; sure = true })
+        (record { table = table; scope = []; any_run = true; sure = true })
         found.old.items found.new.items result
         (λ f. behind_trees f (nodes_view terms.now)) (λ f. run_all_stand f (nodes_view terms.now)) }
 {
-    let place = progress.space.open_scopes();
-    let root = RunSite {
+    let root = Site {
         table,
-        scope: progress.open_root()?,
-        place,
+        scope: progress.space.root(),
+        any_run: true,
         sure: true,
     };
-    find_run_terms(progress, &root, terms, found)?;
-    progress.close_scopes(place);
-    Ok(())
+    find_run_terms(progress, &root, terms, found)
 }
 
 /// Finds the terms of all tables, whose code may run.
@@ -394,15 +376,18 @@ fn found_terms<'a>(
     trees: &'a [Vec<Node>],
     givens: &[(Path, ArgumentCount)],
     any_run: bool,
-) -> Result<Vec<StandingTerm<'a>>, LoadFault>
+) -> Result<StandingTerms<'a>, LoadFault>
     ensures found { IfOk result (λ x.
-        standings_view x.items ≡ set_stands any_run givens.now (trees_view trees.now)) }
+        standings_view x.space x.terms.items ≡ set_stands any_run givens.now (trees_view trees.now)) }
     ensures forward { IfErr result (λ e. Fails e (set_declares any_run givens.now (trees_view trees.now))) }
 {
     let mut progress = first_progress(alloc, givens)?;
     let mut found = Vec::new(alloc);
     find_set(&mut progress, any_run, trees, &mut found)?;
-    Ok(found)
+    Ok(StandingTerms {
+        space: progress.space,
+        terms: found,
+    })
 }
 
 /// The terms of a loaded set outside the methods' bodies, each with the scope in which the load places what it
@@ -416,10 +401,10 @@ pub fn standing_terms<'a>(
     trees: &'a [Vec<Node>],
     givens: &[(Path, ArgumentCount)],
     any_run: bool,
-) -> Result<Vec<StandingTerm<'a>>, LoadFault>
+) -> Result<StandingTerms<'a>, LoadFault>
     // Just these terms, each where it stands.
     ensures found { IfOk result (λ x.
-        standings_view x.items ≡ set_stands any_run givens.now (trees_view trees.now)) }
+        standings_view x.space x.terms.items ≡ set_stands any_run givens.now (trees_view trees.now)) }
     // A refusal for another cause than memory comes only where no tables load to these trees.
     ensures complete { IfErr result (λ e. (e ≡ LoadFault.NoMemory) ⊎ ((unknown_zero : Bool) (tables : List (List ℕ))
         (es : List Entry) → LoadsTo any_run unknown_zero givens.now tables (trees_view trees.now) es → ⊥)) }

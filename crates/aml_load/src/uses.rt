@@ -6,38 +6,23 @@ ghost use Rattle.aml_load.specs.Declaring.{fields_uses, field_uses, term_uses, s
 ghost use Rattle.aml_load.specs.Loading.{in_declaration, declares_by};
 ghost use Rattle.aml_load.specs.Groups.{named_in, asked_as, asked_by};
 ghost use Rattle.aml_names.specs.declared.segments.Seg.{Seg as AnySeg};
-ghost use Rattle.aml_space.specs.Near.{IsOpen, IsNear};
 
 use crate::used::Asked;
 use aml_code::{Field, Group, Link, NoMemory, Node, Part, PartKind, Tail, listed_row};
-use aml_names::{Name, ScopedPath};
-use aml_space::Near;
+use aml_names::Name;
+use aml_space::PathId;
 
 /// Where a term stands.
-#[derive(Drop)]
-pub struct Site<'a> {
+#[derive(Clone, Copy)]
+pub struct Site {
     /// The table, by its place in load order from 0 on.
     pub table: usize,
-    pub scope: &'a ScopedPath,
-    /// The place of the scope among those that are open.
-    pub place: usize,
+    /// The scope, by its number in the space of the tables.
+    pub scope: PathId,
     /// Whether the code outside methods may run.
     pub any_run: bool,
     /// Whether what the term declares is declared in every run of it. Where it may not run, everything is.
     pub sure: bool,
-}
-
-impl Site<'_> {
-    /// Where the scope is found, if it is open.
-    pub fn near(&self) -> Near
-        ensures { (scopes : List (List AnySeg)) → IsOpen scopes self.now.place self.now.scope.now →
-            IsNear scopes result self.now.scope.now }
-    {
-        Near {
-            place: self.place,
-            front: self.scope.parts().len(),
-        }
-    }
 }
 
 fn is_argument(kind: PartKind) -> bool

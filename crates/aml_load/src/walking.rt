@@ -1,5 +1,5 @@
 //! What the terms of a table declare.
-ghost use Rattle.std.specs.Prelude.{◌≡◌, ◌∷◌, ◌++◌, [], Option, None, Ok, IfOk, IfSome, OnOk, true, take, length, ◌<◌};
+ghost use Rattle.std.specs.Prelude.{◌≡◌, ◌∷◌, ◌++◌, [], Option, Some, None, Ok, IfOk, IfSome, OnOk, true, take, length, ◌<◌};
 ghost use Rattle.std.specs.Option.{option_copied, ok_or};
 ghost use Rattle.std.specs.List.{list_all};
 ghost use Rattle.aml_code.specs.Lawful.{last_label, field_names, plain_name, unit_names};
@@ -10,23 +10,21 @@ ghost use Rattle.aml_namespace.specs.Runs.{outlook_of, sure_at, open_in};
 ghost use Rattle.aml_namespace.specs.Kinds.{kind_in, IsAmong};
 ghost use Rattle.aml_namespace.specs.Known.{StandsAt, StandsFor};
 ghost use Rattle.aml_namespace.specs.declared.kinds.Kind.TheVariants.{Alias};
-ghost use Rattle.aml_space.specs.Near.{IsBelow, path_of};
+ghost use Rattle.aml_space.specs.Below.{path_below, path_behind};
 ghost use Rattle.aml_load.specs.Declaring.{under, Listed, plus, with_uses, first_label, byte_of, lead_of, target_of};
 ghost use Rattle.aml_load.specs.Declaring.{body_span, place_at, lead_at, entry_at, new_at, method_at, alias_at};
 ghost use Rattle.aml_load.specs.Declaring.{external_at, units_at, declare_as, declare, declare_inside, declare_all};
 ghost use Rattle.aml_load.specs.Loading.{method_entry, parent_of, sure_with, plain_entry};
-ghost use Rattle.aml_load.specs.Walking.{at_site, Gives, GivesIn, IsDeclared, Walks, IsInside, Stays, Holds, AreBelow, IsPlain};
-ghost use Rattle.aml_load.specs.Walking.{source_paths, sure_of};
+ghost use Rattle.aml_load.specs.Walking.{at_site, Gives, GivesIn, IsDeclared, Walks, IsInside, Stays, Holds, IsBelow, AreBelow, IsPlain};
+ghost use Rattle.aml_load.specs.Walking.{source_path, source_paths, sure_of};
 
 use crate::faults::LoadFault;
 use crate::groups::{Group, add_group};
-use crate::keeping::most_kept;
 use crate::roles::{kind_of, role_of};
 use crate::uses::{Site, add_names};
 use aml_code::{Field, Name, NoMemory, Node, Part, Role, Seg, Tail, last_byte, last_name};
-use aml_names::{Path, ScopedPath, front_of};
 use aml_set::Method;
-use aml_space::{Kind, Near, PathId, PlacedPath, Space, SpaceFault};
+use aml_space::{Below, Kind, PathId, Space, SpaceFault};
 use std::alloc::Global;
 
 /// The most methods that a set of tables may have.
@@ -71,89 +69,107 @@ fn first_name(parts: &[Part]) -> Option<&Name>
 
 #[tactic(auto, unfolding(crate::specs::Declaring::place_at))]
 impl Progress {
-    /// Where a term's name leads from its scope, without a search. `AboveRoot` where that is nowhere.
-    pub fn own_path(&self, site: &Site<'_>, name: Option<&Name>) -> Result<PlacedPath, LoadFault>
-        ensures gives { Gives (λ p. p.path) result (place_at (at_site site.now) (option_copied name.entry)) }
-        ensures below { AreBelow result site.now.scope.now }
+    /// Where a name leads from a scope, without a search. `AboveRoot` where that is nowhere.
+    pub fn placed_path<'n>(&self, site: &Site, name: &'n Name) -> Result<Below<'n>, LoadFault>
+        ensures gives { Gives (path_below self.now.space.paths) result
+            (place_at (at_site self.now.space site.now) (Some name.now)) }
+        ensures below { AreBelow self.now.space result }
     {
-        let Some(name) = name else {
-            return Err(LoadFault::Space(site.table, SpaceFault::AboveRoot));
-        };
-        match front_of(&site.scope.parts(), name) {
+        match self.space.above(site.scope, name) {
             None => Err(LoadFault::Space(site.table, SpaceFault::AboveRoot)),
-            Some(front) => {
-                let path = PlacedPath::new(self.alloc, site.scope, front, name.segs.as_slice())?;
-                Ok(path)
-            }
+            Some(above) => Ok(Below {
+                above,
+                segs: name.segs.as_slice(),
+            }),
+        }
+    }
+
+    /// The same of a term's name. `AboveRoot` where it has none.
+    pub fn own_path<'n>(&self, site: &Site, name: Option<&'n Name>) -> Result<Below<'n>, LoadFault>
+        ensures gives { Gives (path_below self.now.space.paths) result
+            (place_at (at_site self.now.space site.now) (option_copied name.entry)) }
+        ensures below { AreBelow self.now.space result }
+    {
+        match name {
+            None => Err(LoadFault::Space(site.table, SpaceFault::AboveRoot)),
+            Some(name) => self.placed_path(site, name),
         }
     }
 }
 
 impl Progress {
-    /// What a name leads to in its scope.
-    pub fn found_path(
-        &self,
-        site: &Site<'_>,
-        name: Option<&Name>,
-    ) -> Result<Option<PlacedPath>, NoMemory>
-        requires { IsInside self.now site.now }
-        ensures below { IfOk result (λ met. IfSome met (λ p. IsBelow p.front site.now.scope.now p.path)) }
+    /// What a name leads to in its scope: behind which path its segments stand.
+    pub fn found_above(&self, site: &Site, name: &Name) -> Result<Option<PathId>, NoMemory>
+        ensures within { IfOk result (λ met. IfSome met (λ id. id < length self.now.space.paths)) }
         ensures found { (l : Listed) → StandsFor self.now.space l.entries →
-            IfOk result (λ met. path_of met ≡ lead_of (at_site site.now) l.entries (option_copied name.entry)) }
+            IfOk result (λ met. path_behind self.now.space.paths name.now.segs met
+            ≡ lead_of (at_site self.now.space site.now) l.entries (Some name.now)) }
     {
-        let Some(name) = name else { return Ok(None) };
         if site.any_run {
-            self.space.lead(self.alloc, site.near(), site.scope, name)
+            self.space.lead_from(site.scope, name)
         } else {
-            self.space
-                .find_scoped(self.alloc, site.near(), site.scope, name)
+            self.space.find_from(site.scope, name)
         }
     }
 }
 
 impl Progress {
     /// Gets ready for the search of a name, which may look at each level of its scope.
-    pub fn expect_search(&mut self, site: &Site<'_>, name: Option<&Name>)
+    pub fn expect_search(&mut self, site: &Site, name: Option<&Name>)
         ensures { self.new ≡ self.old }
     {
         match name {
-            Some(name) if name.is_single() => self.space.expect_search(site.scope.parts().len()),
+            Some(name) if name.is_single() => self.space.expect_search(site.scope),
             _ => {}
         }
     }
 }
 
-#[tactic(auto, unfolding(crate::specs::Declaring::lead_at))]
+#[tactic(auto, unfolding(crate::specs::Declaring::lead_at, crate::specs::Declaring::place_at))]
 impl Progress {
     /// The path that a Scope opens. `ScopeMissing` where its name leads to nothing.
-    pub fn scope_path(&self, site: &Site<'_>, name: Option<&Name>) -> Result<PlacedPath, LoadFault>
-        requires { IsInside self.now site.now }
-        ensures below { AreBelow result site.now.scope.now }
-        ensures gives { GivesIn (λ p. p.path) self.now.space result (λ l.
-            lead_at (at_site site.now) l.entries (option_copied name.entry) (λ p. SpaceFault.ScopeMissing p)) }
+    pub fn scope_path<'n>(
+        &self,
+        site: &Site,
+        name: Option<&'n Name>,
+    ) -> Result<Below<'n>, LoadFault>
+        ensures below { AreBelow self.now.space result }
+        ensures gives { GivesIn (path_below self.now.space.paths) self.now.space result (λ l.
+            lead_at (at_site self.now.space site.now) l.entries (option_copied name.entry) (λ p. SpaceFault.ScopeMissing p)) }
     {
-        let path = self.own_path(site, name)?;
-        match self.found_path(site, name)? {
-            Some(found) => Ok(found),
+        let Some(name) = name else {
+            return Err(LoadFault::Space(site.table, SpaceFault::AboveRoot));
+        };
+        let path = self.placed_path(site, name)?;
+        match self.found_above(site, name)? {
+            Some(above) => Ok(Below {
+                above,
+                segs: name.segs.as_slice(),
+            }),
             None => {
-                let missing = SpaceFault::ScopeMissing(path.path.to_path(self.alloc)?);
+                let missing = SpaceFault::ScopeMissing(self.space.to_path(&path)?);
                 Err(LoadFault::Space(site.table, missing))
             }
         }
     }
 
     /// The path that the source of an Alias leads to. `AliasMissing` where that is nothing.
-    fn source_path(&self, site: &Site<'_>, name: Option<&Name>) -> Result<PlacedPath, LoadFault>
-        requires { IsInside self.now site.now }
-        ensures below { AreBelow result site.now.scope.now }
-        ensures gives { GivesIn (λ p. p.path) self.now.space result (λ l.
-            lead_at (at_site site.now) l.entries (option_copied name.entry) (λ p. SpaceFault.AliasMissing p)) }
+    fn source_path<'n>(&self, site: &Site, name: Option<&'n Name>) -> Result<Below<'n>, LoadFault>
+        ensures below { AreBelow self.now.space result }
+        ensures gives { GivesIn (path_below self.now.space.paths) self.now.space result (λ l.
+            lead_at (at_site self.now.space site.now) l.entries (option_copied name.entry) (λ p. SpaceFault.AliasMissing p)) }
     {
-        let path = self.own_path(site, name)?;
-        match self.found_path(site, name)? {
-            Some(found) => Ok(found),
+        let Some(name) = name else {
+            return Err(LoadFault::Space(site.table, SpaceFault::AboveRoot));
+        };
+        let path = self.placed_path(site, name)?;
+        match self.found_above(site, name)? {
+            Some(above) => Ok(Below {
+                above,
+                segs: name.segs.as_slice(),
+            }),
             None => {
-                let missing = SpaceFault::AliasMissing(path.path.to_path(self.alloc)?);
+                let missing = SpaceFault::AliasMissing(self.space.to_path(&path)?);
                 Err(LoadFault::Space(site.table, missing))
             }
         }
@@ -162,97 +178,70 @@ impl Progress {
 
 impl Progress {
     /// The number of what an Alias of a path stands for: an Alias' own target, else the path.
-    fn target_of(&mut self, site: &Site<'_>, source: &PlacedPath) -> Result<PathId, NoMemory>
-        requires inside { IsInside self.old site.now }
-        requires below { IsBelow source.now.front site.now.scope.now source.now.path }
+    fn target_of(&mut self, source: &Below<'_>) -> Result<PathId, NoMemory>
         ensures holds { (l : Listed) → Holds self.old l → Holds self.new l }
         ensures target { (l : Listed) → StandsFor self.old.space l.entries →
-            IfOk result (λ id. StandsAt self.new.space id (target_of l.entries source.now.path)) }
+            IfOk result (λ id. StandsAt self.new.space id
+            (target_of l.entries (path_below self.old.space.paths source.now))) }
         ensures among { IfOk result (λ id. id < length self.new.space.paths) }
         ensures stays { Stays self.old self.new }
     {
-        let near = source.near(site.place);
-        self.space.number_target(near, &source.path.parts())
-    }
-
-    /// Whether the path above one has a kind whatever runs.
-    fn is_sure_above(&self, site: &Site<'_>, path: &PlacedPath) -> bool
-        requires inside { IsInside self.now site.now }
-        requires below { IsBelow path.now.front site.now.scope.now path.now.path }
-        ensures { (l : Listed) → StandsFor self.now.space l.entries →
-            result ≡ sure_at l.entries (parent_of path.now.path) }
-    {
-        let path_parts = path.path.parts();
-        let count = path_parts.len().saturating_sub(1);
-        let near = path.near(site.place).first(count);
-        self.space.is_sure(near, &path_parts.first(count))
+        self.space.number_target(source)
     }
 
     /// Whether what an Alias is declared of has a kind whatever runs; true of another kind.
-    fn is_source_sure(&self, site: &Site<'_>, source: Option<&PlacedPath>) -> bool
-        requires inside { IsInside self.now site.now }
-        requires below { IfSome source (λ s. IsBelow s.now.front site.now.scope.now s.now.path) }
+    fn is_source_sure(&self, source: Option<&Below<'_>>) -> bool
         ensures { (l : Listed) → StandsFor self.now.space l.entries →
-            result ≡ list_all (sure_at l.entries) (source_paths (path_of (option_copied source.entry))) }
+            result ≡ list_all (sure_at l.entries)
+            (source_paths (source_path self.now.space.paths (option_copied source.entry))) }
     {
         match source {
             None => true,
-            Some(source) => {
-                self.space
-                    .is_sure(source.near(site.place), &source.path.parts())
-            }
+            Some(source) => self.space.is_sure(source),
         }
     }
 
     /// Whether a path that is declared at a site is declared in every run. `source`: what an Alias is declared of.
-    pub fn is_sure_here(
-        &self,
-        site: &Site<'_>,
-        path: &PlacedPath,
-        source: Option<&PlacedPath>,
-    ) -> bool
-        requires inside { IsInside self.now site.now }
-        requires below { IsBelow path.now.front site.now.scope.now path.now.path }
-        requires source { IfSome source (λ s. IsBelow s.now.front site.now.scope.now s.now.path) }
+    pub fn is_sure_here(&self, site: &Site, path: &Below<'_>, source: Option<&Below<'_>>) -> bool
         ensures { (l : Listed) → StandsFor self.now.space l.entries →
-            result ≡ sure_of (at_site site.now) l.entries path.now.path (path_of (option_copied source.entry)) }
+            result ≡ sure_of (at_site self.now.space site.now) l.entries (path_below self.now.space.paths path.now) (source_path self.now.space.paths (option_copied source.entry)) }
     {
         if !site.any_run {
             return site.sure;
         }
-        site.sure && self.is_sure_above(site, path) && self.is_source_sure(site, source)
+        let outside = self.space.outside(path);
+        site.sure && self.space.is_sure(&outside) && self.is_source_sure(source)
     }
 
     /// Declares a path: once where the code outside methods may not run, else `Duplicate`; and also again where it may.
     /// `source`: what an Alias is declared of.
     fn declare_path(
         &mut self,
-        site: &Site<'_>,
-        path: &PlacedPath,
+        site: &Site,
+        path: &Below<'_>,
         kind: Kind<PathId>,
-        source: Option<&PlacedPath>,
+        source: Option<&Below<'_>>,
     ) -> Result<(), LoadFault>
         requires inside { IsInside self.old site.now }
-        requires below { IsBelow path.now.front site.now.scope.now path.now.path }
-        requires source { IfSome source (λ s. IsBelow s.now.front site.now.scope.now s.now.path) }
+        requires below { IsBelow self.old.space path.now }
+        requires source { IfSome source (λ s. IsBelow self.old.space s.now) }
         requires target { IsAmong (length self.old.space.paths) kind }
         ensures declared { (l : Listed) (body : Option Body) → StandsFor self.old.space l.entries →
-            IsDeclared (at_site site.now) l.entries path.now.path
-            (declares path.now.path (kind_in self.old.space.paths kind) body
-            (sure_of (at_site site.now) l.entries path.now.path (path_of (option_copied source.entry))))
+            IsDeclared (at_site self.old.space site.now) l.entries (path_below self.old.space.paths path.now)
+            (declares (path_below self.old.space.paths path.now) (kind_in self.old.space.paths kind) body
+            (sure_of (at_site self.old.space site.now) l.entries (path_below self.old.space.paths path.now) (source_path self.old.space.paths (option_copied source.entry))))
             self.old self.new result }
         ensures stays { OnOk result (Stays self.old self.new) }
     {
-        let near = path.near(site.place);
         let sure = self.is_sure_here(site, path, source);
         if site.any_run {
-            self.space.put_again(near, &path.path.parts(), kind, sure)?;
+            self.space.put_again(path, kind, sure)?;
             return Ok(());
         }
-        if self.space.put_once(near, &path.path.parts(), kind, sure)? {
+        if self.space.put_once(path, kind, sure)? {
             return Ok(());
         }
-        let taken = SpaceFault::Duplicate(path.path.to_path(self.alloc)?);
+        let taken = SpaceFault::Duplicate(self.space.to_path(path)?);
         Err(LoadFault::Space(site.table, taken))
     }
 
@@ -260,19 +249,19 @@ impl Progress {
     #[tactic(auto, unfolding(crate::specs::Declaring::entry_at))]
     fn declare_of(
         &mut self,
-        site: &Site<'_>,
-        path: &PlacedPath,
+        site: &Site,
+        path: &Below<'_>,
         kind: Kind<PathId>,
-        source: Option<&PlacedPath>,
+        source: Option<&Below<'_>>,
     ) -> Result<(), LoadFault>
         requires inside { IsInside self.old site.now }
-        requires below { IsBelow path.now.front site.now.scope.now path.now.path }
-        requires source { IfSome source (λ s. IsBelow s.now.front site.now.scope.now s.now.path) }
+        requires below { IsBelow self.old.space path.now }
+        requires source { IfSome source (λ s. IsBelow self.old.space s.now) }
         requires target { IsAmong (length self.old.space.paths) kind }
         ensures walks { Walks self.old self.new result (λ l.
-            entry_at (at_site site.now) l path.now.path
-            (declares path.now.path (kind_in self.old.space.paths kind) None
-            (sure_of (at_site site.now) l.entries path.now.path (path_of (option_copied source.entry))))) }
+            entry_at (at_site self.old.space site.now) l (path_below self.old.space.paths path.now)
+            (declares (path_below self.old.space.paths path.now) (kind_in self.old.space.paths kind) None
+            (sure_of (at_site self.old.space site.now) l.entries (path_below self.old.space.paths path.now) (source_path self.old.space.paths (option_copied source.entry))))) }
         ensures stays { OnOk result (Stays self.old self.new) }
     {
         self.declare_path(site, path, kind, source)
@@ -281,16 +270,16 @@ impl Progress {
     /// Declares a path that has no body and is no Alias of anything.
     pub fn declare(
         &mut self,
-        site: &Site<'_>,
-        path: &PlacedPath,
+        site: &Site,
+        path: &Below<'_>,
         kind: Kind<PathId>,
     ) -> Result<(), LoadFault>
         requires inside { IsInside self.old site.now }
-        requires below { IsBelow path.now.front site.now.scope.now path.now.path }
+        requires below { IsBelow self.old.space path.now }
         requires plain { IsPlain kind (kind_in [] kind) }
         ensures walks { Walks self.old self.new result (λ l.
-            entry_at (at_site site.now) l path.now.path
-            (plain_entry (at_site site.now) l.entries (kind_in [] kind) path.now.path)) }
+            entry_at (at_site self.old.space site.now) l (path_below self.old.space.paths path.now)
+            (plain_entry (at_site self.old.space site.now) l.entries (kind_in [] kind) (path_below self.old.space.paths path.now))) }
         ensures stays { OnOk result (Stays self.old self.new) }
     {
         self.declare_of(site, path, kind, None)
@@ -299,21 +288,20 @@ impl Progress {
     /// Declares the path of a method with a body that begins here, so long.
     fn declare_body(
         &mut self,
-        site: &Site<'_>,
-        path: &PlacedPath,
+        site: &Site,
+        path: &Below<'_>,
         flags: u8,
         start: u32,
         len: u32,
     ) -> Result<(), LoadFault>
         requires inside { IsInside self.old site.now }
-        requires below { IsBelow path.now.front site.now.scope.now path.now.path }
-        ensures walks { Walks self.old self.new result (λ l. entry_at (at_site site.now) l path.now.path
-            (method_entry (at_site site.now) l.entries flags (start, len) path.now.path)) }
+        requires below { IsBelow self.old.space path.now }
+        ensures walks { Walks self.old self.new result (λ l. entry_at (at_site self.old.space site.now) l (path_below self.old.space.paths path.now)
+            (method_entry (at_site self.old.space site.now) l.entries flags (start, len) (path_below self.old.space.paths path.now))) }
         ensures stays { OnOk result (Stays self.old self.new) }
     {
         self.declare_path(site, path, Kind::Method { args: flags % 8 }, None)?;
-        let near = path.near(site.place);
-        let number = self.space.number(near, &path.path.parts())?;
+        let number = self.space.number(path)?;
         self.methods.push(Method {
             path: number,
             flags,
@@ -330,36 +318,30 @@ impl Progress {
     /// Declares a name as an Alias of a source.
     fn declare_alias(
         &mut self,
-        site: &Site<'_>,
+        site: &Site,
         name: Option<&Name>,
-        source: &PlacedPath,
+        source: &Below<'_>,
     ) -> Result<(), LoadFault>
         requires inside { IsInside self.old site.now }
-        requires below { IsBelow source.now.front site.now.scope.now source.now.path }
+        requires below { IsBelow self.old.space source.now }
         ensures walks { Walks self.old self.new result (λ l.
-            new_at (at_site site.now) l (option_copied name.entry) (λ p. declares p
-            (Alias (open_in (outlook_of l.entries) source.now.path) (target_of l.entries source.now.path)) None
-            (sure_with (at_site site.now) l.entries (parent_of p ∷ source.now.path ∷ [])))) }
+            new_at (at_site self.old.space site.now) l (option_copied name.entry) (λ p. declares p
+            (Alias (open_in (outlook_of l.entries) (path_below self.old.space.paths source.now)) (target_of l.entries (path_below self.old.space.paths source.now))) None
+            (sure_with (at_site self.old.space site.now) l.entries (parent_of p ∷ (path_below self.old.space.paths source.now) ∷ [])))) }
         ensures stays { OnOk result (Stays self.old self.new) }
     {
         let path = self.own_path(site, name)?;
-        let target = self.target_of(site, source)?;
-        let near = source.near(site.place);
-        let is_open = self.space.is_open(near, &source.path.parts());
+        let target = self.target_of(source)?;
+        let is_open = self.space.is_open(source);
         self.declare_of(site, &path, Kind::Alias { is_open, target }, Some(source))
     }
 
     /// Declares a method, however many there are.
-    fn declare_method(
-        &mut self,
-        site: &Site<'_>,
-        parts: &[Part],
-        tail: &Tail,
-    ) -> Result<(), LoadFault>
+    fn declare_method(&mut self, site: &Site, parts: &[Part], tail: &Tail) -> Result<(), LoadFault>
         requires { IsInside self.old site.now }
         ensures walks { Walks self.old self.new result (λ l.
-            new_at (at_site site.now) l (last_label None (parts_view parts.now))
-            (method_entry (at_site site.now) l.entries (byte_of (parts_view parts.now))
+            new_at (at_site self.old.space site.now) l (last_label None (parts_view parts.now))
+            (method_entry (at_site self.old.space site.now) l.entries (byte_of (parts_view parts.now))
             (body_span (tail_view tail.now)))) }
         ensures stays { OnOk result (Stays self.old self.new) }
     {
@@ -372,15 +354,10 @@ impl Progress {
 impl Progress {
     /// Declares a method. `TooManyMethods` where as many as there may be are there, whatever its name is.
     #[tactic(auto, unfolding(crate::specs::Declaring::method_at))]
-    pub fn add_method(
-        &mut self,
-        site: &Site<'_>,
-        parts: &[Part],
-        tail: &Tail,
-    ) -> Result<(), LoadFault>
+    pub fn add_method(&mut self, site: &Site, parts: &[Part], tail: &Tail) -> Result<(), LoadFault>
         requires { IsInside self.old site.now }
         ensures walks { Walks self.old self.new result (λ l.
-            method_at (at_site site.now) l (last_label None (parts_view parts.now))
+            method_at (at_site self.old.space site.now) l (last_label None (parts_view parts.now))
             (byte_of (parts_view parts.now)) (body_span (tail_view tail.now))) }
         ensures stays { OnOk result (Stays self.old self.new) }
     {
@@ -391,10 +368,10 @@ impl Progress {
     }
 
     #[tactic(auto, unfolding(crate::specs::Declaring::alias_at))]
-    pub fn add_alias(&mut self, site: &Site<'_>, parts: &[Part]) -> Result<(), LoadFault>
+    pub fn add_alias(&mut self, site: &Site, parts: &[Part]) -> Result<(), LoadFault>
         requires { IsInside self.old site.now }
         ensures walks { Walks self.old self.new result (λ l.
-            alias_at (at_site site.now) l (first_label (parts_view parts.now))
+            alias_at (at_site self.old.space site.now) l (first_label (parts_view parts.now))
             (last_label None (parts_view parts.now))) }
         ensures stays { OnOk result (Stays self.old self.new) }
     {
@@ -404,48 +381,48 @@ impl Progress {
     }
 
     /// Adds an External of a path.
-    fn add_count(&mut self, site: &Site<'_>, path: &PlacedPath, count: u8) -> Result<(), LoadFault>
-        requires inside { IsInside self.old site.now }
-        requires below { IsBelow path.now.front site.now.scope.now path.now.path }
-        ensures walks { Walks self.old self.new result (λ l. Ok (plus l (outside path.now.path count))) }
+    fn add_count(&mut self, path: &Below<'_>, count: u8) -> Result<(), LoadFault>
+        ensures walks { Walks self.old self.new result (λ l.
+            Ok (plus l (outside (path_below self.old.space.paths path.now) count))) }
         ensures stays { OnOk result (Stays self.old self.new) }
     {
-        let near = path.near(site.place);
-        self.space.put_external(near, &path.path.parts(), count)?;
+        self.space.put_external(path, count)?;
         Ok(())
     }
 
     #[tactic(auto, unfolding(crate::specs::Declaring::external_at))]
-    pub fn add_external(&mut self, site: &Site<'_>, parts: &[Part]) -> Result<(), LoadFault>
+    pub fn add_external(&mut self, site: &Site, parts: &[Part]) -> Result<(), LoadFault>
         requires { IsInside self.old site.now }
         ensures walks { Walks self.old self.new result (λ l.
-            external_at (at_site site.now) l (last_label None (parts_view parts.now))
+            external_at (at_site self.old.space site.now) l (last_label None (parts_view parts.now))
             (byte_of (parts_view parts.now))) }
         ensures stays { OnOk result (Stays self.old self.new) }
     {
         let path = self.own_path(site, last_name(parts))?;
-        self.add_count(site, &path, byte_in(parts))
+        self.add_count(&path, byte_in(parts))
     }
 }
 
 #[tactic(auto, unfolding(crate::specs::Declaring::units_at))]
 impl Progress {
     /// Declares the unit of a field list with this segment.
-    fn add_unit(&mut self, site: &Site<'_>, seg: Seg) -> Result<(), LoadFault>
+    fn add_unit(&mut self, site: &Site, seg: Seg) -> Result<(), LoadFault>
         requires { IsInside self.old site.now }
         ensures walks { Walks self.old self.new result (λ l.
-            units_at (at_site site.now) l (plain_name seg ∷ [])) }
+            units_at (at_site self.old.space site.now) l (plain_name seg ∷ [])) }
         ensures stays { OnOk result (Stays self.old self.new) }
     {
-        let front = site.scope.parts().len();
-        let path = PlacedPath::new(self.alloc, site.scope, front, &[seg])?;
+        let path = Below {
+            above: site.scope,
+            segs: &[seg],
+        };
         self.declare(site, &path, Kind::Field)
     }
 
-    fn add_field(&mut self, site: &Site<'_>, field: &Field) -> Result<(), LoadFault>
+    fn add_field(&mut self, site: &Site, field: &Field) -> Result<(), LoadFault>
         requires { IsInside self.old site.now }
         ensures walks { Walks self.old self.new result (λ l.
-            units_at (at_site site.now) l (unit_names (field_more (field_view field.now) no_fields))) }
+            units_at (at_site self.old.space site.now) l (unit_names (field_more (field_view field.now) no_fields))) }
         ensures stays { OnOk result (Stays self.old self.new) }
     {
         match field {
@@ -454,10 +431,10 @@ impl Progress {
         }
     }
 
-    fn add_fields(&mut self, site: &Site<'_>, fields: &[Field]) -> Result<(), LoadFault>
+    fn add_fields(&mut self, site: &Site, fields: &[Field]) -> Result<(), LoadFault>
         requires { IsInside self.old site.now }
         ensures walks { Walks self.old self.new result (λ l.
-            units_at (at_site site.now) l (unit_names (fields_view fields.now))) }
+            units_at (at_site self.old.space site.now) l (unit_names (fields_view fields.now))) }
         ensures stays { OnOk result (Stays self.old self.new) }
     {
         for field in fields {
@@ -467,10 +444,10 @@ impl Progress {
     }
 
     /// Declares the named units of a field list.
-    pub fn add_units(&mut self, site: &Site<'_>, tail: &Tail) -> Result<(), LoadFault>
+    pub fn add_units(&mut self, site: &Site, tail: &Tail) -> Result<(), LoadFault>
         requires { IsInside self.old site.now }
         ensures walks { Walks self.old self.new result (λ l.
-            units_at (at_site site.now) l (field_names (tail_view tail.now))) }
+            units_at (at_site self.old.space site.now) l (field_names (tail_view tail.now))) }
         ensures stays { OnOk result (Stays self.old self.new) }
     {
         match tail {
@@ -481,53 +458,27 @@ impl Progress {
 }
 
 impl Progress {
-    /// Opens the root as a scope inside those that are open.
-    pub fn open_root(&mut self) -> Result<ScopedPath, NoMemory>
-        ensures holds { OnOk result ((l : Listed) → Holds self.old l → Holds self.new l) }
-        ensures more { OnOk result (self.new.space.scopes ≡ self.old.space.scopes ++ [] ∷ []) }
-        ensures scope { IfOk result (λ scope. scope ≡ []) }
-    {
-        let root = ScopedPath::whole(self.alloc, Path::root(self.alloc))?;
-        self.space.enter(Near::root(), &root, 0)
-    }
-
-    /// Opens a path as a scope inside those that are open, in which so many paths are kept at most.
-    pub fn open_scope(
-        &mut self,
-        site: &Site<'_>,
-        path: &PlacedPath,
-        most: usize,
-    ) -> Result<ScopedPath, NoMemory>
-        requires inside { IsInside self.old site.now }
-        requires below { IsBelow path.now.front site.now.scope.now path.now.path }
-        ensures holds { OnOk result ((l : Listed) → Holds self.old l → Holds self.new l) }
-        ensures more { OnOk result (self.new.space.scopes ≡ self.old.space.scopes ++ path.now.path ∷ []) }
-        ensures scope { IfOk result (λ scope. scope ≡ path.now.path) }
-    {
-        self.space.enter(path.near(site.place), &path.path, most)
-    }
-
-    /// Closes all scopes but so many first ones.
-    pub fn close_scopes(&mut self, count: usize)
+    /// The number of a path in which terms stand.
+    pub fn number(&mut self, path: &Below<'_>) -> Result<PathId, NoMemory>
         ensures holds { (l : Listed) → Holds self.old l → Holds self.new l }
-        ensures fewer { self.new.space.scopes ≡ take count self.old.space.scopes }
+        ensures at { IfOk result (λ id. StandsAt self.new.space id (path_below self.old.space.paths path.now)) }
+        ensures stays { Stays self.old self.new }
     {
-        self.space.leave(count);
+        self.space.number(path)
     }
 }
 
 impl Progress {
     /// Adds the names that stand as TermArgs in a term, or as the term, outside the terms inside it.
-    pub fn ask(&mut self, site: &Site<'_>, term: &Node) -> Result<(), NoMemory>
+    pub fn ask(&mut self, site: &Site, term: &Node) -> Result<(), NoMemory>
         requires { IsInside self.old site.now }
         ensures asks { OnOk result ((l : Listed) → Holds self.old l →
-            Holds self.new (with_uses (at_site site.now) l (node_view term.now))) }
-        ensures stays { OnOk result (Stays self.old self.new) }
+            Holds self.new (with_uses (at_site self.old.space site.now) l (node_view term.now))) }
+        ensures space { self.new.space ≡ self.old.space }
     {
         let mut names = Vec::new(self.alloc);
         add_names(site.table, term, &mut names)?;
-        let scope = self.space.open_scope(site.place);
-        add_group(&mut self.uses, scope, names)
+        add_group(&mut self.uses, site.scope, names)
     }
 }
 
@@ -535,9 +486,9 @@ impl Progress {
     /// Declares what a term declares, and what the terms inside it declare.
     #[cycle(walk)]
     #[tactic(auto, unfolding(crate::specs::Declaring::declare))]
-    fn walk(&mut self, site: &Site<'_>, node: &Node) -> Result<(), LoadFault>
+    fn walk(&mut self, site: &Site, node: &Node) -> Result<(), LoadFault>
         requires { IsInside self.old site.now }
-        ensures walks { Walks self.old self.new result (λ l. declare (at_site site.now) l (node_view node.now)) }
+        ensures walks { Walks self.old self.new result (λ l. declare (at_site self.old.space site.now) l (node_view node.now)) }
         ensures stays { OnOk result (Stays self.old self.new) }
     {
         match node {
@@ -559,14 +510,14 @@ impl Progress {
     #[tactic(auto, unfolding(crate::specs::Declaring::declare_as, crate::specs::Declaring::declare_inside))]
     fn walk_role(
         &mut self,
-        site: &Site<'_>,
+        site: &Site,
         role: Role,
         tail: &Tail,
         parts: &[Part],
     ) -> Result<(), LoadFault>
         requires { IsInside self.old site.now }
         ensures walks { Walks self.old self.new result (λ l.
-            declare_as role (at_site site.now) l (parts_view parts.now) (tail_view tail.now)
+            declare_as role (at_site self.old.space site.now) l (parts_view parts.now) (tail_view tail.now)
             (λ l below. declare_inside below l (tail_view tail.now))) }
         ensures stays { OnOk result (Stays self.old self.new) }
     {
@@ -600,45 +551,28 @@ impl Progress {
 
     /// Declares what these terms declare, whose scope is this path.
     #[cycle(walk)]
-    fn walk_below(
-        &mut self,
-        site: &Site<'_>,
-        path: &PlacedPath,
-        terms: &[Node],
-    ) -> Result<(), LoadFault>
+    fn walk_below(&mut self, site: &Site, path: &Below<'_>, terms: &[Node]) -> Result<(), LoadFault>
         requires inside { IsInside self.old site.now }
-        requires below { IsBelow path.now.front site.now.scope.now path.now.path }
+        requires below { IsBelow self.old.space path.now }
         ensures walks { Walks self.old self.new result (λ l.
-            declare_all (under (at_site site.now) path.now.path) l (nodes_view terms.now)) }
+            declare_all (under (at_site self.old.space site.now) (path_below self.old.space.paths path.now)) l (nodes_view terms.now)) }
         ensures stays { OnOk result (Stays self.old self.new) }
     {
-        // A scope without terms needs no path of its own.
+        // A scope without terms needs no number.
         if terms.is_empty() {
             return Ok(());
         }
-        let place = self.space.open_scopes();
-        let scope = self.open_scope(site, path, most_kept(&path.path, terms))?;
-        self.walk_all(
-            &Site {
-                table: site.table,
-                scope: &scope,
-                place,
-                any_run: site.any_run,
-                sure: site.sure,
-            },
-            terms,
-        )?;
-        self.close_scopes(place);
-        Ok(())
+        let scope = self.number(path)?;
+        self.walk_all(&Site { scope, ..*site }, terms)
     }
 
     /// Declares what the terms inside a term declare.
     #[cycle(walk)]
     #[tactic(auto, unfolding(crate::specs::Declaring::declare_inside))]
-    fn walk_inside(&mut self, site: &Site<'_>, tail: &Tail) -> Result<(), LoadFault>
+    fn walk_inside(&mut self, site: &Site, tail: &Tail) -> Result<(), LoadFault>
         requires { IsInside self.old site.now }
         ensures walks { Walks self.old self.new result (λ l.
-            declare_inside (at_site site.now) l (tail_view tail.now)) }
+            declare_inside (at_site self.old.space site.now) l (tail_view tail.now)) }
         ensures stays { OnOk result (Stays self.old self.new) }
     {
         match tail {
@@ -650,10 +584,10 @@ impl Progress {
     /// Declares what these terms declare, in the order of the text.
     #[cycle(walk)]
     #[tactic(auto, unfolding(crate::specs::Declaring::declare_all))]
-    pub fn walk_all(&mut self, site: &Site<'_>, terms: &[Node]) -> Result<(), LoadFault>
+    pub fn walk_all(&mut self, site: &Site, terms: &[Node]) -> Result<(), LoadFault>
         requires { IsInside self.old site.now }
         ensures walks { Walks self.old self.new result (λ l.
-            declare_all (at_site site.now) l (nodes_view terms.now)) }
+            declare_all (at_site self.old.space site.now) l (nodes_view terms.now)) }
         ensures stays { OnOk result (Stays self.old self.new) }
     {
         for term in terms {

@@ -5,7 +5,6 @@ ghost use Rattle.std.specs.FinSet as set;
 
 use crate::branches::Branches;
 use crate::faults::NoMemory;
-use crate::parts::Parts;
 use crate::paths::Path;
 use crate::segments::Seg;
 use std::alloc::Global;
@@ -15,7 +14,7 @@ use std::marker::Model;
 /// Names that stand in one scope keep them by it instead, as `Branches`.
 #[derive(Drop)]
 pub struct Locals {
-    branches: Branches<Parts<'static>>,
+    branches: Branches<Path>,
 }
 
 impl Model for Locals {
@@ -35,7 +34,7 @@ impl Locals {
         ensures { result ≡ set.empty }
     {
         Locals {
-            branches: Branches::new(alloc, Parts::whole(&[])),
+            branches: Branches::new(alloc, Path::root(alloc)),
         }
     }
 
@@ -65,7 +64,7 @@ impl Locals {
     pub fn has_below(
         &self,
         alloc: Global,
-        scope: &Parts<'_>,
+        scope: &Path,
         front: usize,
         segs: &[Seg],
     ) -> Result<bool, NoMemory>
@@ -79,7 +78,7 @@ impl Locals {
         if !self.branches.may_end(segs) {
             return Ok(false);
         }
-        let path = scope.first(front).below(alloc, segs)?;
+        let path = Path::below(alloc, &scope.segs()[..front], segs)?;
         Ok(self.has(&path))
     }
 
@@ -88,7 +87,7 @@ impl Locals {
     pub fn nearest(
         &self,
         alloc: Global,
-        scope: &Parts<'_>,
+        scope: &Path,
         segment: Seg,
     ) -> Result<Option<usize>, NoMemory>
         ensures { IfOk result (λ depth. depth ≡ nearest self.now scope.now (segment ∷ [])) }
@@ -96,8 +95,8 @@ impl Locals {
         if !self.branches.may_end(&[segment]) {
             return Ok(None);
         }
-        let mut path = scope.below(alloc, &[segment])?;
-        let mut depth = scope.len();
+        let mut path = Path::below(alloc, scope.segs(), &[segment])?;
+        let mut depth = scope.segs().len();
         'depths: loop {
             if self.has(&path) {
                 return Ok(Some(depth));

@@ -6,7 +6,6 @@ ghost use Rattle.std.specs.Cmp.{partial_equiv_from_equiv, partial_order_from_tot
 ghost use Rattle.std.specs.Fmt.{WritesOnOk};
 ghost use Rattle.aml_names.specs.Paths.{path_cmp, paths_total, joined_text};
 
-use crate::parts::Parts;
 use crate::segments::{Seg, in_order};
 use smallvec::SmallVec;
 use std::alloc::{AllocError, Global};
@@ -67,15 +66,6 @@ impl Path {
         Ok(Path { segs })
     }
 
-    /// Adds segments at the end. Where memory is refused the path is as before.
-    pub(crate) fn extend(&mut self, tail: &[Seg]) -> Result<(), AllocError>
-        ensures ok { OnOk result (self.new ≡ self.old ++ tail.now) }
-        ensures err { OnErr result (self.new ≡ self.old) }
-    {
-        self.segs.extend_from_slice(tail)?;
-        Ok(())
-    }
-
     /// Takes the segment before the last one out: the last one then stands in the parent of its scope.
     pub fn raise(&mut self)
         requires { 2 ≤ length self.old }
@@ -97,13 +87,6 @@ impl Path {
         ensures { result.now ≡ self.now }
     {
         self.segs.as_slice()
-    }
-
-    /// The same as the parts of a path.
-    pub fn parts(&self) -> Parts<'_>
-        ensures { result ≡ self.now }
-    {
-        Parts::whole(self.segs())
     }
 }
 

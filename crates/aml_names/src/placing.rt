@@ -6,7 +6,6 @@ ghost use Rattle.aml_names.specs.Names.{placed};
 
 use crate::faults::NoMemory;
 use crate::names::Name;
-use crate::parts::Parts;
 use crate::paths::Path;
 use crate::segments::Seg;
 use std::alloc::Global;
@@ -25,15 +24,15 @@ pub trait Stand: Drop {
         ensures { result ≡ get_or (path self.now) place (record { 0 = [] }) };
 }
 
-impl Stand for Parts<'_> {
-    ghost path = { λ parts. parts };
+impl Stand for Path {
+    ghost path = { λ path. path };
 
     fn depth(&self) -> usize {
-        self.len()
+        self.segs().len()
     }
 
     fn segment_at(&self, place: usize) -> Seg {
-        self.segment(place)
+        self.segs()[place]
     }
 }
 
@@ -56,7 +55,7 @@ pub fn front_of<S: Stand>(scope: &S, name: &Name) -> Option<usize>
 pub fn place(alloc: Global, scope: &Path, name: &Name) -> Result<Option<Path>, NoMemory>
     ensures { IfOk result (λ path. path ≡ placed scope.now name.now) }
 {
-    match front_of(&scope.parts(), name) {
+    match front_of(scope, name) {
         None => Ok(None),
         Some(front) => {
             let path = Path::below(alloc, &scope.segs()[..front], name.segs.as_slice())?;

@@ -102,15 +102,6 @@ impl Segs {
         Ok(Segs { segs })
     }
 
-    /// Some segments, and others behind them.
-    pub fn joined(alloc: Global, front: &[Seg], tail: &[Seg]) -> Result<Segs, AllocError>
-        ensures { IfOk result (λ all. all ≡ front.now ++ tail.now) }
-    {
-        let mut segs = SmallVec::from_slice(alloc, front)?;
-        segs.extend_from_slice(tail)?;
-        Ok(Segs { segs })
-    }
-
     /// How many segments there are.
     pub fn len(&self) -> usize
         ensures { result ≡ length self.now }

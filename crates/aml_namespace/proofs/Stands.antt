@@ -21,7 +21,7 @@ use Rattle.aml_namespace.specs.Known.{again, behind, declaration_at}
 use Rattle.aml_namespace.specs.Known.{once, with_declaration, declared_kind, kinds_by, sure_by, with_again}
 use Rattle.aml_namespace.specs.Known.{with_external}
 use Rattle.aml_namespace.specs.Known.{with_given}
-use Rattle.aml_namespace.specs.Known.{with_scopes, with_paths, of_paths, Grows}
+use Rattle.aml_namespace.specs.Known.{with_paths, of_paths, Grows}
 
 tied_path : (p q : List Seg) → same_path q p ≡ true → q ≡ p
 tied_path p q e = tells_apart exact_paths q p e
@@ -68,11 +68,7 @@ pub declarations_alone : (k : Known) (es : List Entry) → StandsFor k es → k.
 declarations_alone k es s =
     map.same_map paths_total exact_paths _ _ (λ q. s.same_declared q ∙ sym ((known_stands es).same_declared q))
 
--- which scopes are open says nothing of entries
-pub stands_inside : (k : Known) (scopes : List (List Seg)) (es : List Entry) → StandsFor k es → StandsFor (with_scopes k scopes) es
-stands_inside k scopes es s = record { same_declared = s.same_declared; same_outs = s.same_outs; same_givens = s.same_givens }
-
--- nor do the paths that have numbers
+-- which paths have numbers says nothing of entries
 stands_numbered : (k : Known) (paths : List (List Seg)) (es : List Entry) → StandsFor k es → StandsFor (with_paths k paths) es
 stands_numbered k paths es s = record { same_declared = s.same_declared; same_outs = s.same_outs; same_givens = s.same_givens }
 
@@ -80,7 +76,7 @@ pub stands_grown : (old new : Known) (es : List Entry) → Grows old new → Sta
 stands_grown old new es (more, is) s = subst (λ k. StandsFor k es) (sym is) (stands_numbered old (old.paths ++ more) es s)
 
 pub stands_alone : (k : Known) (es : List Entry) → StandsFor k es → StandsFor (of_paths k) es
-stands_alone k es s = stands_numbered (with_scopes k []) [] es (stands_inside k [] es s)
+stands_alone k es s = stands_numbered k [] es s
 
 -- a count that may be missing, or the greater of two
 abbrev merged : Option ℕ → Option ℕ → Option ℕ

@@ -129,12 +129,11 @@ coded_rows = coded_list coded_row
 -- ---- What a space knows: three finite maps by path, and the lists of entries that these stand for.
 
 -- What the declarations of each path say, the greatest count of its Externals, and the greatest that the user gives it;
--- the scopes that are open while tables load, each inside those before it; and the paths that have numbers, by these.
+-- and the paths that have numbers, by these.
 pub record Known : Type 0 where
   pub declarations : map.FinMap path_cmp Declared
   pub outs : map.FinMap path_cmp ℕ
   pub givens : map.FinMap path_cmp ℕ
-  pub scopes : List (List Seg)
   pub paths : List (List Seg)
 
 -- the namespace of what is known
@@ -154,8 +153,7 @@ outlook_in k = record {
 }
 
 -- What is known stands for a list of entries: the declarations of each path say the same in both, and both have the
--- same greatest count of Externals for each path, and the same given one. Which scopes are open, and which paths have
--- numbers, is said elsewhere.
+-- same greatest count of Externals for each path, and the same given one. Which paths have numbers is said elsewhere.
 pub record StandsFor (k : Known) (es : List Entry) : Type 0 where
   pub same_declared : (q : List Seg) → map.get k.declarations q ≡ declaration_at es q
   pub same_outs : (q : List Seg) → map.get k.outs q ≡ outs_at es q
@@ -163,7 +161,7 @@ pub record StandsFor (k : Known) (es : List Entry) : Type 0 where
 
 -- nothing; of the paths the root alone has a number
 abbrev pub nothing_known : Known
-nothing_known = record { declarations = map.empty; outs = map.empty; givens = map.empty; scopes = []; paths = [] ∷ [] }
+nothing_known = record { declarations = map.empty; outs = map.empty; givens = map.empty; paths = [] ∷ [] }
 
 abbrev pub with_declaration : Known → List Seg → Declared → Known
 with_declaration k p d = record k { declarations = map.insert k.declarations p d }
@@ -185,17 +183,13 @@ with_external k p n = record k { outs = map.insert k.outs p (greater n (map.get 
 abbrev pub with_given : Known → List Seg → ℕ → Known
 with_given k p n = record k { givens = map.insert k.givens p (greater n (map.get k.givens p)) }
 
--- with these scopes open
-abbrev pub with_scopes : Known → List (List Seg) → Known
-with_scopes k scopes = record k { scopes = scopes }
-
 -- with these paths by their numbers
 abbrev pub with_paths : Known → List (List Seg) → Known
 with_paths k paths = record k { paths = paths }
 
 -- what is known of paths alone
 abbrev pub of_paths : Known → Known
-of_paths k = with_paths (with_scopes k []) []
+of_paths k = with_paths k []
 
 -- a path has a number
 abbrev pub StandsAt : Known → ℕ → List Seg → Type 0
@@ -223,15 +217,15 @@ declarations_in es = (known es).declarations
 abbrev pub is_declared : Known → List Seg → Bool
 is_declared k p = is_some (map.get k.declarations p)
 
--- what is known is three maps and two lists of paths, and nothing more
+-- what is known is three maps and a list of paths, and nothing more
 abbrev pub coded_known : Coded Known
 coded_known =
     code_by (map.FinMap path_cmp Declared
-    × (map.FinMap path_cmp ℕ × (map.FinMap path_cmp ℕ × (List (List Seg) × List (List Seg)))))
+    × (map.FinMap path_cmp ℕ × (map.FinMap path_cmp ℕ × List (List Seg))))
     (coded× (map.code coded_path coded_declared) (coded× (map.code coded_path coded_ℕ)
-    (coded× (map.code coded_path coded_ℕ) (coded× (coded_list coded_path) (coded_list coded_path)))))
-    (λ k. (k.declarations, (k.outs, (k.givens, (k.scopes, k.paths)))))
-    (λ p. record { declarations = p.0; outs = p.1.0; givens = p.1.1.0; scopes = p.1.1.1.0; paths = p.1.1.1.1 })
+    (coded× (map.code coded_path coded_ℕ) (coded_list coded_path))))
+    (λ k. (k.declarations, (k.outs, (k.givens, k.paths))))
+    (λ p. record { declarations = p.0; outs = p.1.0; givens = p.1.1.0; paths = p.1.1.1 })
     (λ _. refl)
 
 -- ---- What the names of a method's body are read by.

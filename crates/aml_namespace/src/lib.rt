@@ -16,7 +16,7 @@ pub use declarations::Declarations;
 pub use ids::PathId;
 pub use kinds::Kind;
 pub use laws::rows_are_declared;
-pub use predefined::{predefined_kind, predefined_of};
+pub use predefined::predefined_kind;
 pub use rows::SpaceRow;
 pub use runs::{
     every_run_agrees, every_run_leads_there, quick_way_holds, runs_differ, stays_as_it_is,

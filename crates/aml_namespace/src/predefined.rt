@@ -7,7 +7,7 @@ ghost use Rattle.aml_namespace.specs.Predefined.{predefined, predefined_segment,
 
 use crate::ids::PathId;
 use crate::kinds::Kind;
-use aml_names::{Parts, Seg};
+use aml_names::Seg;
 
 const SCOPES: [Seg; 5] = [
     Seg(*b"_GPE"),
@@ -32,20 +32,6 @@ pub fn predefined_kind(path: &[Seg]) -> Option<Kind<PathId>>
         [segment] => kind_of_segment(*segment),
         _ => None,
     }
-}
-
-/// That of a path in parts.
-pub fn predefined_of(path: &Parts<'_>) -> Option<Kind<PathId>>
-    ensures { (paths : List (List AnySeg)) → option_map (kind_in paths) result ≡ predefined path.now }
-{
-    let (front, own) = path.slices();
-    if front.is_empty() {
-        return predefined_kind(own);
-    }
-    if own.is_empty() {
-        return predefined_kind(front);
-    }
-    None
 }
 
 /// That of a segment below the root.

@@ -8,6 +8,7 @@ pub mod Leads
 pub mod ReadLaws
 pub mod Again
 pub mod Readings
+mod ShortLaws
 pub mod Steps
 pub mod OneWay
 pub mod PrefixLaws

@@ -8,7 +8,7 @@ use Rattle.aml_names.specs.Paths.{PathSet}
 use Rattle.aml_code.specs.declared.rows.Position.{Position}
 use Rattle.aml_code.specs.Faults.{Arities}
 use Rattle.aml_code.specs.Lawful.{last_label, plain_name, field_names}
-use Rattle.aml_code.specs.Pieces.{Told, next, part, part_pieces}
+use Rattle.aml_code.specs.Pieces.{Told, next, part, pieces, part_pieces}
 use Rattle.aml_code.specs.Tree.{Tree, Tail, Part, part_more, no_parts}
 use Rattle.aml_parse.specs.Reading.{Reader, read_at}
 use Rattle.aml_parse.specs.declared.parser.Parser.{Parser}
@@ -64,3 +64,9 @@ IsPlain p = IsOne p × ((found : Option Name) → found ≡ last_label found (pa
 abbrev pub IsLabel : ℕ → List ℕ → Part → Type 0
 IsLabel end bytes p =
     IsOne p × ((found : Option Name) → name_read (name_at end bytes) ≡ last_label found (part_more p no_parts))
+
+-- a term was told by its bytes alone: whoever reads it with so many levels reads it so, and it declares nothing
+abbrev pub TellsShort : {S : Type 0} → (S → S → List Told → Type 0) → Position → ℕ → ℕ → ℕ → S → S → List ℕ → List ℕ → Type 0
+TellsShort grew p levels level end old new bytes rest =
+    (arity : Arities) (scope : Option (List Seg)) (ls : PathSet)
+    → Tells grew (pieces level) (λ t. Unit {0}) old new ls rest (read_at arity scope levels p end ls bytes)

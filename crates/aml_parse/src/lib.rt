@@ -12,6 +12,7 @@ mod plain;
 mod positions;
 mod room;
 mod running;
+mod short;
 mod step;
 mod tell;
 mod terms;

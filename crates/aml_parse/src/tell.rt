@@ -20,6 +20,7 @@ use crate::plain::{
     tell_any_name, tell_byte, tell_count, tell_dword, tell_name, tell_qword, tell_text, tell_word,
 };
 use crate::positions::{Lead, guard_of, is_guard, lead_of, row_of, tail_in, takes_names, terms_in};
+use crate::short::tell_short;
 use crate::units::{
     access_unit_of, extended_unit_of, named_link_of, named_unit_of, reserved_unit_of,
 };
@@ -213,9 +214,36 @@ impl<'a, N: Names> Parser<'a, N> {
         Ok((false, behind))
     }
 
-    /// So many arguments.
+    /// So many arguments, most often none.
+    #[inline(always)]
     #[cycle(telling)]
     fn tell_arguments<'b, S: Sink>(
+        &self,
+        count: u8,
+        here: Here,
+        end: u32,
+        locals: &mut N::Locals,
+        sink: &mut S,
+        bytes: &'b [u8],
+    ) -> Result<&'b [u8], CodeFault>
+        requires fits { N.fits self.now.names.now locals.old }
+        requires argument { here.position ≡ Position.Argument }
+        ensures told { IfOk result (λ rest. Tells S.grew (items here.level) (λ ts. tree_count ts ≡ count)
+            sink.old sink.new (N.paths self.now.names.now locals.new) rest.now
+            (arguments_at (read_by N.arity N.scope self.now here.levels) count end (N.paths self.now.names.now locals.old) bytes.now)) }
+        ensures fails { IfErr result (λ e. Fails e
+            (arguments_at (read_by N.arity N.scope self.now here.levels) count end (N.paths self.now.names.now locals.old) bytes.now)) }
+        ensures fits { N.fits self.now.names.now locals.new }
+    {
+        if count == 0 {
+            return Ok(bytes);
+        }
+        self.tell_each(count, here, end, locals, sink, bytes)
+    }
+
+    /// So many arguments, one after the other.
+    #[cycle(telling)]
+    fn tell_each<'b, S: Sink>(
         &self,
         count: u8,
         here: Here,
@@ -237,9 +265,8 @@ impl<'a, N: Names> Parser<'a, N> {
         let mut rest = bytes;
         for _i in 0..count {
             tell_separator(sink, is_first)?;
-            let (_is_if, behind) = self.tell_term(here, end, locals, sink, rest)?;
+            rest = self.tell_inner(here, end, locals, sink, rest)?;
             is_first = false;
-            rest = behind;
         }
         Ok(rest)
     }
@@ -415,8 +442,36 @@ impl<'a, N: Names> Parser<'a, N> {
             (read_by N.arity N.scope self.now here.levels here.position end (N.paths self.now.names.now locals.old) bytes.now))) }
         ensures fits { N.fits self.now.names.now locals.new }
     {
-        let (_is_if, rest) = self.tell_term(here, end, locals, sink, bytes)?;
+        let rest = self.tell_inner(here, end, locals, sink, bytes)?;
         Ok(rest)
+    }
+
+    /// A term inside another, which is often short.
+    #[inline(always)]
+    #[cycle(telling)]
+    fn tell_inner<'b, S: Sink>(
+        &self,
+        here: Here,
+        end: u32,
+        locals: &mut N::Locals,
+        sink: &mut S,
+        bytes: &'b [u8],
+    ) -> Result<&'b [u8], CodeFault>
+        requires { N.fits self.now.names.now locals.old }
+        ensures told { IfOk result (λ rest. Tells S.grew (pieces here.level) (λ t. Unit {0}) sink.old sink.new
+            (N.paths self.now.names.now locals.new) rest.now
+            (read_by N.arity N.scope self.now here.levels here.position end (N.paths self.now.names.now locals.old) bytes.now)) }
+        ensures fails { IfErr result (λ e. Fails e
+            (read_by N.arity N.scope self.now here.levels here.position end (N.paths self.now.names.now locals.old) bytes.now)) }
+        ensures fits { N.fits self.now.names.now locals.new }
+    {
+        match tell_short(here, end, sink, bytes)? {
+            Some(rest) => Ok(rest),
+            None => {
+                let (_is_if, rest) = self.tell_term(here, end, locals, sink, bytes)?;
+                Ok(rest)
+            }
+        }
     }
 
     /// What follows the parts, to the end of the span. Answers the segments of the named units of a field list.

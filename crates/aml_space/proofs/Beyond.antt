@@ -17,8 +17,8 @@ module _ (s : Scope) (is : IsScope s) where
   pub front_long : length (path_of s.nodes.now s.last.node) ≡ s.last.depth
   front_long = ap length front_is ∙ length-take-le s.last.depth (path_in s) is.last.within
 
-  pub long_is : length (path_in s) ≡ s.last.depth + length s.beyond
-  long_is = length-append (path_of s.nodes.now s.last.node) s.beyond ∙ ap (λ n. n + length s.beyond) front_long
+  pub long_is : length (path_in s) ≡ s.last.depth + length s.beyond.now
+  long_is = length-append (path_of s.nodes.now s.last.node) s.beyond.now ∙ ap (λ n. n + length s.beyond.now) front_long
 
   -- a segment that isn't behind the last level is that of the node behind it
   pub segment_led : (d j : ℕ) → d < length (path_in s) → walk (kids_of s.nodes.now) 0 (take (d + 1) (path_in s)) ≡ Some j
@@ -29,8 +29,8 @@ module _ (s : Scope) (is : IsScope s) where
 
   -- and another one is behind it
   pub segment_beyond : (d : ℕ) → s.last.depth ≤ d
-      → get_or s.beyond (d - s.last.depth) (record { 0 = [] }) ≡ get_or (path_in s) d (record { 0 = [] })
-  segment_beyond d past = sym (get_or-append_right (path_of s.nodes.now s.last.node) s.beyond s.last.depth d (record { 0 = [] }) front_long past)
+      → get_or s.beyond.now (d - s.last.depth) (record { 0 = [] }) ≡ get_or (path_in s) d (record { 0 = [] })
+  segment_beyond d past = sym (get_or-append_right (path_of s.nodes.now s.last.node) s.beyond.now s.last.depth d (record { 0 = [] }) front_long past)
 
 -- no path of two segments or more is predefined
 pub predefined_long : (front own : List Seg) → 1 < length front → predefined (front ++ own) ≡ None

@@ -268,6 +268,5 @@ module _ (ns new : List Node) (i : ℕ) (seg : Seg) (is : IsIndex ns) (within : 
     declarations = grown_part (said_by new) (said_by ns) refl said_still t;
     outs = grown_part (λ c. c.out) (λ c. c.out) refl (λ k. refl) t;
     givens = grown_part (λ c. c.given) (λ c. c.given) refl (λ k. refl) t;
-    scopes = [];
     paths = [];
   }

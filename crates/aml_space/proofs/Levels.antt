@@ -7,35 +7,27 @@ use Rattle.std.specs.Option.{option_and_then}
 use Rattle.std.proofs.lemmas.Option.{same_Some}
 use Rattle.std.proofs.lemmas.List.{take_more, take-append-drop, take-take, drop_more}
 use Rattle.aml_names.specs.declared.segments.Seg.{Seg}
-use Rattle.aml_children.specs.declared.children.Child.{Child}
 use Rattle.aml_children.specs.Children.{child_in}
 use Rattle.aml_space.specs.declared.nodes.Node.{Node}
-use Rattle.aml_space.specs.declared.growing.Reach.{Reach}
 use Rattle.aml_children.specs.Numbered.{walk}
-use Rattle.aml_space.specs.Nodes.{kids_of, links_of, IsIndex, Reaches}
+use Rattle.aml_space.specs.Nodes.{kids_of, links_of, IsIndex}
 use Rattle.aml_children.proofs.Basics.{alone}
 use Rattle.aml_children.proofs.Walks.{walk_push, walk_none, led_more, kid_range, front_led}
 
 abbrev pub none_seg : Seg
 none_seg = record { 0 = [] }
 
--- a path whose front leads to a node that has no child by the next segment
-pub led_no_further : (kids : ℕ → List Child) (k at : ℕ) (p : List Seg) (e : Seg) → k < length p
-    → walk kids 0 (take k p) ≡ Some at →
-    child_in (kids at) (get_or p k e) ≡ None → walk kids 0 p ≡ None
-led_no_further kids k at p e within led none = ap (walk kids 0) (sym (take-append-drop (k + 1) p))
-    ∙ walk_none kids 0 (take (k + 1) p) (drop (k + 1) p) (led_more kids at k p e None within led none)
-
 module _ (ns : List Node) (scope : List Seg) where
   -- behind the longest front that leads somewhere nothing does
-  pub reach_past : (r : Reach) → Reaches ns scope r → (d : ℕ) → r.known < d → d ≤ length scope
-      → walk (kids_of ns) 0 (take d scope) ≡ None
-  reach_past r is d more within =
-      let inside : r.known < length scope = omega (arith, more, within) in
-      let none = is.ends (get_or scope r.known none_seg) (drop (r.known + 1) scope) (drop_more scope r.known none_seg inside) in
-      ap (walk (kids_of ns) 0) (sym (take-append-drop (r.known + 1) (take d scope))
-      ∙ ap (λ q. q ++ drop (r.known + 1) (take d scope)) (take-take (r.known + 1) d scope (omega (arith, more))))
-      ∙ walk_none (kids_of ns) 0 (take (r.known + 1) scope) _ (led_more (kids_of ns) r.node r.known scope none_seg None inside is.led none)
+  pub reach_past : (k at : ℕ) → walk (kids_of ns) 0 (take k scope) ≡ Some at
+      → ((s : Seg) (q : List Seg) → drop k scope ≡ s ∷ q → child_in (kids_of ns at) s ≡ None)
+      → (d : ℕ) → k < d → d ≤ length scope → walk (kids_of ns) 0 (take d scope) ≡ None
+  reach_past k at led ends d more within =
+      let inside : k < length scope = omega (arith, more, within) in
+      let none = ends (get_or scope k none_seg) (drop (k + 1) scope) (drop_more scope k none_seg inside) in
+      ap (walk (kids_of ns) 0) (sym (take-append-drop (k + 1) (take d scope))
+      ∙ ap (λ q. q ++ drop (k + 1) (take d scope)) (take-take (k + 1) d scope (omega (arith, more))))
+      ∙ walk_none (kids_of ns) 0 (take (k + 1) scope) _ (led_more (kids_of ns) at k scope none_seg None inside led none)
 
   -- the node of a candidate
   pub candidate_node : (segment : List Seg) (e : Seg) (d at : ℕ) → length segment ≡ 1

@@ -1,9 +1,9 @@
 -- The nodes of a path below a node, each made below the one before it, in a list that grows by one empty node at a time
--- (`one_more`, `rest_more`): afterwards the path leads to the last of them, and nothing else is known (`path_grown`).
-use Rattle.std.proofs.Common.{◌≡◌, ℕ, ◌+◌, ◌<◌, ◌^◌, List, [], ◌∷◌, ◌++◌, length, take, drop, get_or, Some, None, sym, ap}
+-- (`one_more`, `rest_more`): afterwards the path leads to the last of them, and nothing else is known (`path_more`).
+use Rattle.std.proofs.Common.{◌≡◌, ℕ, ◌+◌, ◌<◌, ◌^◌, List, [], ◌∷◌, ◌++◌, length, Some, None, sym, ap}
 use Rattle.std.proofs.Common.{subst, ◌∙◌, arith, append_assoc, true}
 use Rattle.std.proofs.Common.{length-append}
-use Rattle.std.proofs.lemmas.List.{append-nil, take-append-drop, drop_more}
+use Rattle.std.proofs.lemmas.List.{append-nil}
 use Rattle.std.specs.Option.{option_and_then}
 use Rattle.aml_names.specs.declared.segments.Seg.{Seg}
 use Rattle.aml_children.specs.declared.children.Child.{Child}
@@ -12,10 +12,10 @@ use Rattle.aml_space.specs.declared.nodes.Node.{Node}
 use Rattle.aml_children.specs.Numbered.{walk}
 use Rattle.aml_children.proofs.Basics.{read_last}
 use Rattle.aml_space.specs.Nodes.{kids_of, depth_in, depths_of, known_by, IsIndex, IsKept, empty, chain, with_child, with_path}
-use Rattle.aml_children.proofs.Walks.{walk_push, node_range}
+use Rattle.aml_children.proofs.Walks.{walk_push}
 use Rattle.aml_space.proofs.Grow.{more_if, has_grown, length_with, with_pushed, last_leaf}
 use Rattle.aml_space.proofs.Growth.{grown_index, grown_known, grown_kept, new_child, still}
-use Rattle.aml_space.proofs.Opening.{kept_on}
+use Rattle.aml_space.proofs.Keeping.{kept_on}
 
 -- an index that knows the same, in which a path leads to a node
 pub record Leads (ns new : List Node) (p : List Seg) (at : ℕ) : Type 0 where
@@ -73,7 +73,7 @@ rest_more ns new xs top t d p (s ∷ q) whole at so room nodes path end =
     (path ∙ sym (append_assoc p (s ∷ []) q)) (omega (arith, end, long_next))
 
 -- the nodes of a path below one
-path_more : (ns : List Node) (p : List Seg) (i : ℕ) (s : Seg) (q : List Seg) → i < length ns → length ns + length q < 2 ^ 32 → IsIndex ns
+pub path_more : (ns : List Node) (p : List Seg) (i : ℕ) (s : Seg) (q : List Seg) → i < length ns → length ns + length q < 2 ^ 32 → IsIndex ns
     → walk (kids_of ns) 0 p ≡ Some i
     → child_in (kids_of ns i) s ≡ None → Leads ns (with_path ns i s q) (p ++ s ∷ q) (length ns + length q)
 path_more ns p i s q within room is led absent =
@@ -94,17 +94,3 @@ long_path ns i s q =
       length_with ns i c,
       long_chain i (length ns) s (depths_of ns i + 1) q,
     )
-
--- the nodes of the rest of a path, below the node where it ends
-pub path_grown : (ns new : List Node) (p : List Seg) (k at : ℕ) (d : Seg) → IsIndex ns
-    → walk (kids_of ns) 0 (take k p) ≡ Some at → k < length p
-    → ((s : Seg) (q : List Seg) → drop k p ≡ s ∷ q → child_in (kids_of ns at) s ≡ None) →
-    length ns + length (drop (k + 1) p) < 2 ^ 32 → new ≡ with_path ns at (get_or p k d) (drop (k + 1) p)
-    → Leads ns new p (length ns + length (drop (k + 1) p))
-path_grown ns new p k at d is led within ends room same =
-    let rest : drop k p ≡ get_or p k d ∷ drop (k + 1) p = drop_more p k d within in
-    let inside = node_range is.shape (take k p) at led in
-    let more = path_more ns (take k p) at (get_or p k d) (drop (k + 1) p) inside room is led (ends (get_or p k d) (drop (k + 1) p) rest) in
-    let whole : take k p ++ get_or p k d ∷ drop (k + 1) p ≡ p = ap (λ (q : List Seg). take k p ++ q) (sym rest) ∙ take-append-drop k p in
-    subst (λ ms. Leads ns ms p (length ns + length (drop (k + 1) p))) (sym same)
-    (subst (λ l. Leads ns (with_path ns at (get_or p k d) (drop (k + 1) p)) l (length ns + length (drop (k + 1) p))) whole more)

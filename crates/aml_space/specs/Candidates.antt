@@ -24,7 +24,7 @@ names_of s = namespace_in (known_by s.nodes.now)
 
 -- the path of a scope: that of its last node in the index, and the segments behind it
 abbrev pub path_in : Scope → List Seg
-path_in s = path_of s.nodes.now s.last.node ++ s.beyond
+path_in s = path_of s.nodes.now s.last.node ++ s.beyond.now
 
 -- and what may stand at each path there
 abbrev pub outlook_at : Scope → Outlook

@@ -15,7 +15,7 @@ ghost use Rattle.aml_namespace.specs.Tallies.{joined, counts_in, own_count, is_n
 
 use crate::nodes::Node;
 use crate::space_paths::numbered;
-use crate::walking::{declared_at, kind_at, node_of, out_at, standing_at};
+use crate::walking::{declared_at, kind_at, node_from, out_at, standing_at};
 use aml_names::Path;
 use aml_namespace::{Counts, Declarations, Kind, PathId, own_counts, predefined_kind};
 
@@ -93,7 +93,7 @@ pub(crate) fn count_of(nodes: &[Node], path: &Path) -> Option<u8>
     requires { IsIndex nodes.now }
     ensures { result ≡ count_at (namespace_in (known_by nodes.now)) path.now }
 {
-    let node = node_of(nodes, &path.parts());
+    let node = node_from(nodes, 0, path.segs());
     count_met(nodes, node, predefined_kind(path.segs()))
 }
 

@@ -2,6 +2,7 @@
 //! it takes. What a namespace is `aml_namespace` says.
 #![tactic(auto)]
 
+mod below;
 mod bodies;
 mod counting;
 mod edges;
@@ -9,7 +10,6 @@ mod faults;
 mod growing;
 mod listing;
 mod nodes;
-mod opened;
 mod parents;
 mod rows;
 mod scopes;
@@ -24,10 +24,10 @@ pub use aml_namespace::{
     Kind, PathId, SpaceRow, every_run_agrees, every_run_leads_there, quick_way_holds,
     rows_are_declared, runs_differ, stays_as_it_is, sure_stays,
 };
+pub use below::Below;
 pub use bodies::{BodyNames, BodyScope};
 pub use faults::SpaceFault;
 pub use listing::Rows;
-pub use opened::{Near, PlacedPath, is_long};
 pub use rows::Row;
 pub use space_paths::SpacePath;
 pub use spaces::Space;

@@ -15,7 +15,7 @@ ghost use Rattle.aml_namespace.specs.Kinds.{kind_in};
 ghost use Rattle.std.specs.Prelude.{List};
 ghost use Rattle.aml_namespace.specs.Namespace.{first_of, first_given, count_at, kind_at as kind_of_path};
 ghost use Rattle.aml_children.specs.Numbered.{walk};
-ghost use Rattle.aml_space.specs.Nodes.{path_of, kids_of, outs_of, known_by, IsShape, IsIndex, Reaches};
+ghost use Rattle.aml_space.specs.Nodes.{path_of, path_by, kids_of, outs_of, known_by, IsIndex, IsReach};
 ghost use Rattle.aml_namespace.specs.Known.{namespace_in};
 ghost use Rattle.aml_namespace.specs.Runs.{counts_met as met, counts_of, is_known};
 ghost use Rattle.aml_namespace.specs.Tallies.{counts_in};
@@ -30,7 +30,7 @@ use crate::parents::{depth_at, link};
 use crate::seen::{NoLocals, Seen};
 use crate::walking::{child, given_at, node_from, out_at};
 use crate::ways::{Ways, step_from};
-use aml_names::{Name, NoMemory, Parts, Path, Seg};
+use aml_names::{Name, NoMemory, Path, Seg};
 use aml_namespace::{Counts, Kind, PathId, predefined_kind};
 use std::alloc::Global;
 
@@ -45,7 +45,7 @@ pub(crate) struct Scope<'a> {
     /// The last level of its path that stands in the index.
     pub last: Level,
     /// The segments of the path behind that.
-    pub beyond: Parts<'a>,
+    pub beyond: &'a [Seg],
     /// How many segments the path has.
     pub len: usize,
 }
@@ -71,23 +71,24 @@ pub(crate) struct Candidate {
 
 impl<'a> Scope<'a> {
     /// By how far the path leads in the index.
-    pub(crate) fn new(nodes: &'a [Node], ways: &'a Ways, path: Parts<'a>, reach: Reach) -> Scope<'a>
+    pub(crate) fn new(nodes: &'a [Node], ways: &'a Ways, reach: Reach<'a>) -> Scope<'a>
         requires index { IsIndex nodes.now }
         requires ways { AreWays nodes.now ways.now }
-        requires reach { Reaches nodes.now path reach }
+        requires reach { IsReach nodes.now reach }
         ensures scope { IsScope result }
         ensures nodes { result.nodes.now ≡ nodes.now }
-        ensures path { path_in result ≡ path.entry }
+        ensures path { path_in result ≡ path_by nodes.now reach.entry }
     {
+        let depth = depth_at(nodes, reach.node) as usize;
         Scope {
             nodes,
             ways,
             last: Level {
                 node: reach.node,
-                depth: reach.known,
+                depth,
             },
-            beyond: path.after(reach.known),
-            len: path.len(),
+            beyond: reach.left,
+            len: depth + reach.left.len(),
         }
     }
 
@@ -99,13 +100,14 @@ impl<'a> Scope<'a> {
         ensures scope { IsScope result }
         ensures nodes { result.nodes.now ≡ nodes.now }
         ensures path { path_in result ≡ path_of nodes.now node }
+        ensures whole { result.last.depth ≡ length (path_in result) }
     {
         let depth = depth_at(nodes, node) as usize;
         Scope {
             nodes,
             ways,
             last: Level { node, depth },
-            beyond: Parts::whole(&[]),
+            beyond: &[],
             len: depth,
         }
     }
@@ -121,7 +123,7 @@ impl<'a> Scope<'a> {
             nodes: self.nodes,
             ways: self.ways,
             last: self.last,
-            beyond: self.beyond.again(),
+            beyond: self.beyond,
             len: self.len,
         }
     }
@@ -170,7 +172,7 @@ impl<'a> Scope<'a> {
             let (_, seg) = link(self.nodes, self.level_at(place + 1).node);
             seg
         } else {
-            self.beyond.segment(place - self.last.depth)
+            segment_of(self.beyond, place - self.last.depth)
         }
     }
 
@@ -501,14 +503,24 @@ impl<'a> Scope<'a> {
         requires within { depth ≤ length (path_in self.now) }
         ensures { result ≡ walk (kids_of self.now.nodes.now) 0 (take depth (path_in self.now)) }
     {
-        // Names from the root on may stand far below it.
-        if depth == 0 {
-            return Some(0);
-        }
         if depth > self.last.depth {
             return None;
         }
-        Some(self.level_at(depth).node)
+        Some(self.node_above(depth))
+    }
+
+    /// The same of one that does.
+    pub(crate) fn node_above(&self, depth: usize) -> usize
+        requires scope { IsScope self.now }
+        requires within { depth ≤ self.now.last.depth }
+        ensures { walk (kids_of self.now.nodes.now) 0 (take depth (path_in self.now)) ≡ Some result }
+    {
+        // Names from the root on may stand far below it.
+        if depth == 0 {
+            0
+        } else {
+            self.level_at(depth).node
+        }
     }
 
     /// The node of some segments behind a front of the scope's path.
@@ -686,6 +698,14 @@ impl<'a> Scope<'a> {
             level = self.with_above(segment, level);
         }
     }
+}
+
+/// The segment at a place.
+fn segment_of(segs: &[Seg], place: usize) -> Seg
+    requires { place < length segs.now }
+    ensures { result ≡ get_or segs.now place (record { 0 = [] }) }
+{
+    segs[place]
 }
 
 /// The nearest local, where it stands at this depth or further down.

@@ -5,7 +5,7 @@ ghost use Rattle.aml_names.specs.declared.segments.Seg.{Seg as AnySeg};
 ghost use Rattle.aml_names.specs.Paths.{PathSet};
 ghost use Rattle.aml_names.specs.Searching.{nearest};
 
-use aml_names::{Branches, Locals, NoMemory, Parts, Seg, Stand};
+use aml_names::{Branches, Locals, NoMemory, Path, Seg, Stand};
 use std::alloc::Global;
 
 /// Declared paths, seen from a scope.
@@ -70,7 +70,7 @@ impl<S: Stand> Seen for Branches<S> {
 pub(crate) struct Elsewhere<'l, 's> {
     pub alloc: Global,
     pub locals: &'l Locals,
-    pub scope: Parts<'s>,
+    pub scope: &'s Path,
 }
 
 impl Seen for Elsewhere<'_, '_> {
@@ -78,13 +78,13 @@ impl Seen for Elsewhere<'_, '_> {
 
     ghost paths = { λ seen. seen.locals.now };
 
-    ghost fits = { λ seen scope. seen.scope ≡ scope };
+    ghost fits = { λ seen scope. seen.scope.now ≡ scope };
 
     fn has_below(&self, front: usize, segs: &[Seg]) -> Result<bool, NoMemory> {
-        self.locals.has_below(self.alloc, &self.scope, front, segs)
+        self.locals.has_below(self.alloc, self.scope, front, segs)
     }
 
     fn nearest(&self, segment: Seg) -> Result<Option<usize>, NoMemory> {
-        self.locals.nearest(self.alloc, &self.scope, segment)
+        self.locals.nearest(self.alloc, self.scope, segment)
     }
 }

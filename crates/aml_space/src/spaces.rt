@@ -1,16 +1,17 @@
 //! The namespace that tables make.
 ghost use Rattle.std.specs.Prelude.{◌≡◌, ◌<◌, ◌≤◌, ◌*◌, length, slice_get, [], ◌∷◌, ◌++◌, List, Option, true, false};
-ghost use Rattle.std.specs.Prelude.{is_some, not, cond, take, Ok};
+ghost use Rattle.std.specs.Prelude.{is_some, not, cond, take, Ok, ◌-◌};
 ghost use Rattle.std.specs.Prelude.{map as map_list, ◌⊎◌, OnOk, OnErr, IfOk, IfErr, IfSome, IsTrue};
 ghost use Rattle.std.specs.Option.{option_map};
 ghost use Rattle.std.specs.FinMap as map;
 ghost use Rattle.aml_namespace.specs.Namespace.{Entry, Body, declares, external as outside, given as said};
 ghost use Rattle.aml_namespace.specs.Namespace.{kind_at, count_at, namespace_of, declared_at, target_by};
 ghost use Rattle.aml_namespace.specs.Runs.{outlook_of, sure_at, scope_in, open_in};
-ghost use Rattle.aml_space.specs.Nodes.{known_by};
-ghost use Rattle.aml_namespace.specs.Known.{Grows, StandsAt, path_at, with_scopes, of_paths};
+ghost use Rattle.aml_space.specs.Nodes.{known_by, paths_in};
+ghost use Rattle.aml_namespace.specs.Known.{Grows, StandsAt, path_at, of_paths};
 ghost use Rattle.aml_names.specs.declared.segments.Seg.{Seg as AnySeg};
-ghost use Rattle.aml_space.specs.Near.{IsNear, IsOpen};
+ghost use Rattle.aml_space.specs.Below.{path_below, path_behind};
+ghost use Rattle.aml_names.specs.Names.{placed};
 ghost use Rattle.aml_namespace.specs.Kinds.{kind_in, IsAmong};
 ghost use Rattle.aml_space.specs.Candidates.{path_in, names_of, outlook_at, IsScope};
 ghost use Rattle.aml_namespace.specs.Known.{StandsFor, nothing_known, once, with_declaration, with_declared};
@@ -18,34 +19,27 @@ ghost use Rattle.aml_namespace.specs.Known.{with_again};
 ghost use Rattle.aml_namespace.specs.Known.{with_external, with_given};
 ghost use Rattle.aml_namespace.specs.Known.{is_declared as declared_yet, namespace_in, outlook_in, row_of, AreRows};
 
+use crate::below::Below;
 use crate::counting::{count_of, open_met, scope_met, sure_met};
 use crate::faults::SpaceFault;
-use crate::growing::{Reach, declare_again, declare_first, extend, is_taken, set_given, set_out};
+use crate::growing::{
+    declare_again, declare_first, extend, is_taken, reach_below, reach_from, set_given, set_out,
+};
 use crate::listing::{Rows, list_rows};
 use crate::nodes::Node;
-use crate::opened::{Hints, Near, Opened, keep_scope, node_near, owed_in, reach_near};
+use crate::parents::{ancestor, depth_at};
 use crate::rows::Row;
 use crate::scopes::{NEAR, Scope};
 use crate::space_paths::{SpacePath, numbered};
-use crate::walking::{kind_at, seen_kind, walk_counted};
+use crate::walking::{kind_at, node_below, seen_kind, standing_below, walk_counted};
 use crate::ways::Ways;
-use aml_names::{NoMemory, Parts, Path, ScopedPath, Seg};
-use aml_namespace::{Kind, PathId, SpaceRow, predefined_kind, predefined_of};
+use aml_names::{Name, NoMemory, Path, Seg};
+use aml_namespace::{Kind, PathId, SpaceRow, predefined_kind};
 use std::alloc::{AllocError, Global};
 use std::marker::Model;
 
 /// To keep the ways up from a node takes as long as so many looks at levels.
 const LOOKS: usize = 8;
-
-/// What is kept besides the nodes of a space.
-macro_rules! hints_of {
-    ($space:ident) => {
-        Hints::new(
-            $space.scopes.as_slice(),
-            $space.ways.steps.as_slice(),
-        )
-    };
-}
 
 /// The namespace of the tables so far: what they declare, and what Externals name, over the predefined names; and the
 /// argument counts that the user gives to paths of which no table says one.
@@ -56,8 +50,6 @@ pub struct Space {
     pub(crate) nodes: Vec<Node>,
     /// How many paths are declared.
     rows: usize,
-    /// The scopes that are open, each inside those before it.
-    scopes: Vec<Opened>,
     /// The ways up from some first nodes.
     ways: Ways,
     /// How many levels, but for the nearest, were looked at at most since the last time that ways were kept.
@@ -73,11 +65,12 @@ impl Model for Space {
 
     ghost coded = { coded_known };
 
-    ghost use Rattle.aml_space.specs.Opened.{known_in, IsSpace};
+    ghost use Rattle.aml_space.specs.Nodes.{known_in};
+    ghost use Rattle.aml_space.specs.Spaces.{IsSpace};
 
-    ghost view = { λ s. known_in s.nodes.items s.scopes.items };
+    ghost view = { λ s. known_in s.nodes.items };
 
-    ghost invariant = { λ s. IsSpace s.nodes.items s.rows s.scopes.items s.ways };
+    ghost invariant = { λ s. IsSpace s.nodes.items s.rows s.ways };
 }
 
 impl Space {
@@ -92,7 +85,6 @@ impl Space {
             alloc,
             nodes,
             rows: 0,
-            scopes: Vec::new(alloc),
             ways: Ways::new(alloc),
             looked: 0,
             deepest: 0,
@@ -110,12 +102,12 @@ impl Space {
             IsTrue (declared_yet self.old path))) }
         ensures duplicate { IsTrue (declared_yet self.old path) → result ≡ Err (SpaceFault.Duplicate path) }
     {
-        let parts = path.parts();
-        if self.declared(Near::root(), &parts).is_some() {
+        let whole = self.whole(path.segs());
+        if self.declared(&whole).is_some() {
             return Err(SpaceFault::Duplicate(path));
         }
         let kind = self.number_kind(&kind)?;
-        if self.put_once(Near::root(), &parts, kind, true)? {
+        if self.put_once(&self.whole(path.segs()), kind, true)? {
             Ok(())
         } else {
             Err(SpaceFault::Duplicate(path))
@@ -126,34 +118,31 @@ impl Space {
     /// declared already, which takes no memory. A refused call changes nothing that is known of paths.
     pub fn put_once(
         &mut self,
-        near: Near,
-        path: &Parts<'_>,
+        path: &Below<'_>,
         kind: Kind<PathId>,
         surely: bool,
     ) -> Result<bool, NoMemory>
-        requires near { IsNear self.old.scopes near path.now }
         requires target { IsAmong (length self.old.paths) kind }
-        ensures put { IfOk result (λ put. put ≡ not (declared_yet self.old path.now)) }
+        ensures put { IfOk result (λ put. put ≡ not (declared_yet self.old (path_below self.old.paths path.now))) }
         ensures known { IfOk result (λ put.
-            Grows (cond put (with_declaration self.old path.now (once (kind_in self.old.paths kind) surely)) self.old) self.new) }
+            Grows (cond put (with_declaration self.old (path_below self.old.paths path.now) (once (kind_in self.old.paths kind) surely)) self.old) self.new) }
         ensures err { OnErr result (Grows self.old self.new) }
-        ensures taken { IsTrue (declared_yet self.old path.now) → result ≡ Ok false }
+        ensures taken { IsTrue (declared_yet self.old (path_below self.old.paths path.now)) → result ≡ Ok false }
         // The same of a list of entries that it stands for.
         ensures listed { (es : List Entry) → StandsFor self.old es →
-            IfOk result (λ put. put ≡ not (is_some (declared_at es path.now))) }
+            IfOk result (λ put. put ≡ not (is_some (declared_at es (path_below self.old.paths path.now)))) }
         ensures stands { (es : List Entry) (body : Option Body) → StandsFor self.old es →
             IfOk result (λ put. StandsFor self.new
-            (cond put (es ++ declares path.now (kind_in self.old.paths kind) body surely ∷ []) es)) }
+            (cond put (es ++ declares (path_below self.old.paths path.now) (kind_in self.old.paths kind) body surely ∷ []) es)) }
     {
-        let hints = hints_of!(self);
-        let reach = reach_near(self.nodes.as_slice(), hints, near, path);
-        if is_taken(self.nodes.as_slice(), path, reach) {
+        let reach = reach_below(self.nodes.as_slice(), path);
+        if is_taken(self.nodes.as_slice(), reach) {
             return Ok(false);
         }
         if self.rows == usize::MAX {
             return Err(AllocError);
         }
-        declare_first(self.alloc, &mut self.nodes, path, kind, surely, reach)?;
+        declare_first(self.alloc, &mut self.nodes, reach, kind, surely)?;
         self.rows += 1;
         Ok(true)
     }
@@ -172,33 +161,30 @@ impl Space {
         ensures err { OnErr result (Grows self.old self.new) }
     {
         let kind = self.number_kind(&kind)?;
-        self.put_again(Near::root(), &path.parts(), kind, sure)
+        self.put_again(&self.whole(path.segs()), kind, sure)
     }
 
-    /// The same of a path in parts.
+    /// The same of a path below one with a number.
     pub fn put_again(
         &mut self,
-        near: Near,
-        path: &Parts<'_>,
+        path: &Below<'_>,
         kind: Kind<PathId>,
         sure: bool,
     ) -> Result<(), NoMemory>
-        requires near { IsNear self.old.scopes near path.now }
         requires target { IsAmong (length self.old.paths) kind }
-        ensures ok { OnOk result (Grows (with_again self.old path.now (kind_in self.old.paths kind) sure) self.new) }
+        ensures ok { OnOk result (Grows (with_again self.old (path_below self.old.paths path.now) (kind_in self.old.paths kind) sure) self.new) }
         ensures stands { (es : List Entry) (body : Option Body) → StandsFor self.old es →
-            OnOk result (StandsFor self.new (es ++ declares path.now (kind_in self.old.paths kind) body sure ∷ [])) }
+            OnOk result (StandsFor self.new (es ++ declares (path_below self.old.paths path.now) (kind_in self.old.paths kind) body sure ∷ [])) }
         ensures err { OnErr result (Grows self.old self.new) }
     {
-        let hints = hints_of!(self);
-        let reach = reach_near(self.nodes.as_slice(), hints, near, path);
-        if is_taken(self.nodes.as_slice(), path, reach) {
-            return declare_again(self.alloc, &mut self.nodes, path, reach.node, kind, sure);
+        let reach = reach_below(self.nodes.as_slice(), path);
+        if is_taken(self.nodes.as_slice(), reach) {
+            return declare_again(self.alloc, &mut self.nodes, reach.node, kind, sure);
         }
         if self.rows == usize::MAX {
             return Err(AllocError);
         }
-        declare_first(self.alloc, &mut self.nodes, path, kind, sure, reach)?;
+        declare_first(self.alloc, &mut self.nodes, reach, kind, sure)?;
         self.rows += 1;
         Ok(())
     }
@@ -211,20 +197,18 @@ impl Space {
             OnOk result (StandsFor self.new (es ++ outside path count ∷ [])) }
         ensures err { OnErr result (self.new ≡ self.old) }
     {
-        self.put_external(Near::root(), &path.parts(), count)
+        self.put_external(&self.whole(path.segs()), count)
     }
 
-    /// The same of a path in parts.
-    pub fn put_external(&mut self, near: Near, path: &Parts<'_>, count: u8) -> Result<(), NoMemory>
-        requires { IsNear self.old.scopes near path.now }
-        ensures ok { OnOk result (Grows (with_external self.old path.now count) self.new) }
+    /// The same of a path below one with a number.
+    pub fn put_external(&mut self, path: &Below<'_>, count: u8) -> Result<(), NoMemory>
+        ensures ok { OnOk result (Grows (with_external self.old (path_below self.old.paths path.now) count) self.new) }
         ensures stands { (es : List Entry) → StandsFor self.old es →
-            OnOk result (StandsFor self.new (es ++ outside path.now count ∷ [])) }
+            OnOk result (StandsFor self.new (es ++ outside (path_below self.old.paths path.now) count ∷ [])) }
         ensures err { OnErr result (self.new ≡ self.old) }
     {
-        let hints = hints_of!(self);
-        let reach = reach_near(self.nodes.as_slice(), hints, near, path);
-        let at = extend(self.alloc, &mut self.nodes, path, reach)?;
+        let reach = reach_below(self.nodes.as_slice(), path);
+        let at = extend(self.alloc, &mut self.nodes, reach)?;
         set_out(&mut self.nodes, at, count);
         Ok(())
     }
@@ -237,97 +221,94 @@ impl Space {
             OnOk result (StandsFor self.new (es ++ said path.now count ∷ [])) }
         ensures err { OnErr result (self.new ≡ self.old) }
     {
-        let path = path.parts();
-        let hints = hints_of!(self);
-        let reach = reach_near(self.nodes.as_slice(), hints, Near::root(), &path);
-        let at = extend(self.alloc, &mut self.nodes, &path, reach)?;
+        let reach = reach_from(self.nodes.as_slice(), 0, path.segs());
+        let at = extend(self.alloc, &mut self.nodes, reach)?;
         set_given(&mut self.nodes, at, count);
         Ok(())
     }
 
-    /// How many scopes are open.
-    pub fn open_scopes(&self) -> usize
-        ensures { result ≡ length self.now.scopes }
+    /// The number of the root.
+    pub fn root(&self) -> PathId
+        ensures { StandsAt self.now result [] }
     {
-        self.scopes.len()
+        let _ = &self.nodes;
+        PathId::root()
     }
 
-    /// The number of the scope that is open at a place; the root's where none is.
-    pub fn open_scope(&self, place: usize) -> PathId
-        ensures { (scope : List AnySeg) → IsOpen self.now.scopes place scope → StandsAt self.now result scope }
+    /// The path of these segments.
+    pub fn whole<'p>(&self, segs: &'p [Seg]) -> Below<'p>
+        ensures { path_below self.now.paths result ≡ segs.now }
     {
-        match self.scopes.get(place) {
-            Some(scope) => PathId::new(scope.node),
-            None => PathId::root(),
+        let _ = &self.nodes;
+        Below {
+            above: PathId::root(),
+            segs,
         }
     }
 
-    /// Opens a path as a scope inside those that are open, so that what stands there is found by its node. `most`: how
-    /// many paths are kept in it at most, as an Alias' target is; where they are few, a long path keeps its scope's
-    /// segments, and nothing is copied. A refused call opens none.
-    pub fn enter(
-        &mut self,
-        near: Near,
-        path: &ScopedPath,
-        most: usize,
-    ) -> Result<ScopedPath, NoMemory>
-        requires { IsNear self.old.scopes near path.now }
-        ensures ok { OnOk result (Grows (with_scopes self.old (self.old.scopes ++ path.now ∷ [])) self.new) }
-        ensures err { OnErr result (Grows self.old self.new) }
-        ensures scope { IfOk result (λ scope. scope ≡ path.now) }
+    /// Where a name leads from a scope without a search: behind which path its segments stand. `None` where its
+    /// prefixes lead above the root (ACPI 6.5, 5.3).
+    pub fn above(&self, scope: PathId, name: &Name) -> Option<PathId>
+        ensures placed { placed (path_at self.now scope) name.now
+            ≡ path_behind self.now.paths name.now.segs result }
+        ensures within { IfSome result (λ id. id < length self.now.paths) }
     {
-        let parts = path.parts();
-        self.deepest = self.deepest.max(parts.len());
-        let hints = hints_of!(self);
-        let reach = reach_near(self.nodes.as_slice(), hints, near, &parts);
-        let node = extend(self.alloc, &mut self.nodes, &parts, reach)?;
-        let owed = owed_in(self.scopes.as_slice(), near, path, most);
-        let scope = keep_scope(self.alloc, path, owed.is_none())?;
-        self.scopes.push(Opened {
-            scope: scope.clone()?,
-            node,
-            owed: owed.unwrap_or(0),
-        })?;
-        Ok(scope)
+        let here = self.scope_at(scope);
+        let front = here.front_of(name);
+        here.numbered(front)
     }
 
-    /// Closes all open scopes but so many first ones. What else is known stays the same.
-    pub fn leave(&mut self, count: usize)
-        ensures { self.new ≡ with_scopes self.old (take count self.old.scopes) }
+    /// A path without its last segment; of the root, itself.
+    pub fn outside<'p>(&self, path: &Below<'p>) -> Below<'p>
+        ensures { let whole = path_below self.now.paths path.now in
+            path_below self.now.paths result ≡ take (length whole - 1) whole }
     {
-        self.scopes.truncate(count);
+        match path.segs {
+            [front @ .., _last] => Below {
+                above: path.above,
+                segs: front,
+            },
+            [] => {
+                let nodes = self.nodes.as_slice();
+                let at = numbered(nodes, path.above);
+                let levels = depth_at(nodes, at).min(1) as usize;
+                Below {
+                    above: PathId::new(ancestor(nodes, at, levels)),
+                    segs: &[],
+                }
+            }
+        }
     }
 
     /// The number of a path, by which its node is found at once; it has one from now on. A refused call changes
     /// nothing.
-    pub fn number(&mut self, near: Near, path: &Parts<'_>) -> Result<PathId, NoMemory>
-        requires { IsNear self.old.scopes near path.now }
+    pub fn number(&mut self, path: &Below<'_>) -> Result<PathId, NoMemory>
         ensures grows { Grows self.old self.new }
-        ensures ok { IfOk result (λ id. StandsAt self.new id path.now) }
+        ensures ok { IfOk result (λ id. StandsAt self.new id (path_below self.old.paths path.now)) }
         ensures err { OnErr result (self.new ≡ self.old) }
     {
-        self.deepest = self.deepest.max(path.len());
-        let hints = hints_of!(self);
-        let reach = reach_near(self.nodes.as_slice(), hints, near, path);
-        let node = extend(self.alloc, &mut self.nodes, path, reach)?;
+        let reach = reach_below(self.nodes.as_slice(), path);
+        let node = extend(self.alloc, &mut self.nodes, reach)?;
+        let depth = depth_at(self.nodes.as_slice(), node) as usize;
+        self.deepest = self.deepest.max(depth);
         Ok(PathId::new(node))
     }
 
     /// The number of what an Alias of a path stands for: that of the path, or of its own target where it is an Alias. A
     /// refused call changes nothing.
-    pub fn number_target(&mut self, near: Near, path: &Parts<'_>) -> Result<PathId, NoMemory>
-        requires { IsNear self.old.scopes near path.now }
+    pub fn number_target(&mut self, path: &Below<'_>) -> Result<PathId, NoMemory>
         ensures grows { Grows self.old self.new }
         ensures ok { IfOk result (λ id. StandsAt self.new id
-            (target_by (kind_at (namespace_in self.old) path.now) path.now)) }
+            (target_by (kind_at (namespace_in self.old) (path_below self.old.paths path.now))
+            (path_below self.old.paths path.now))) }
         ensures err { OnErr result (self.new ≡ self.old) }
     {
-        match self.declared(near, path) {
+        match self.declared(path) {
             Some(Kind::Alias { target, .. }) => {
                 let at = numbered(self.nodes.as_slice(), target);
                 Ok(PathId::new(at))
             }
-            _ => self.number(near, path),
+            _ => self.number(path),
         }
     }
 
@@ -340,7 +321,7 @@ impl Space {
     {
         let target = match kind.target() {
             None => PathId::root(),
-            Some(path) => self.number(Near::root(), &path.parts())?,
+            Some(path) => self.number(&self.whole(path.segs()))?,
         };
         Ok(kind.aimed_at(target))
     }
@@ -351,6 +332,14 @@ impl Space {
     {
         let nodes = self.nodes.as_slice();
         SpacePath::new(nodes, numbered(nodes, id))
+    }
+
+    /// A path, made anew.
+    pub fn to_path(&self, path: &Below<'_>) -> Result<Path, NoMemory>
+        ensures { IfOk result (λ whole. whole ≡ path_below self.now.paths path.now) }
+    {
+        let front = self.path(path.above).to_path(self.alloc)?;
+        Path::below(self.alloc, front.segs(), path.segs)
     }
 
     /// Keeps the ways up from all nodes, where searches may go far up, so that names cost the levels alone that have
@@ -365,12 +354,13 @@ impl Space {
         self.ways.fill(self.nodes.as_slice())
     }
 
-    /// Does this once looks at levels may have taken as long, with those of a search that comes next. Where memory is
-    /// refused, each level is looked at.
-    pub fn expect_search(&mut self, levels: usize)
+    /// Does this once looks at levels may have taken as long, with those of a search from a scope that comes next. Where
+    /// memory is refused, each level is looked at.
+    pub fn expect_search(&mut self, scope: PathId)
         ensures { self.new ≡ self.old }
     {
-        self.deepest = self.deepest.max(levels);
+        let nodes = self.nodes.as_slice();
+        let levels = depth_at(nodes, numbered(nodes, scope)) as usize;
         self.looked = self.looked.saturating_add(levels.saturating_sub(NEAR));
         if self.looked / LOOKS >= self.nodes.len() - self.ways.steps.len() {
             let _settled = self.settle();
@@ -388,13 +378,12 @@ impl Space {
     }
 
     /// The kind with which a path is declared.
-    fn declared(&self, near: Near, path: &Parts<'_>) -> Option<Kind<PathId>>
-        requires { IsNear self.now.scopes near path.now }
-        ensures { option_map (kind_in self.now.paths) result ≡ (namespace_in self.now).declared path.now }
+    fn declared(&self, path: &Below<'_>) -> Option<Kind<PathId>>
+        ensures { option_map (kind_in self.now.paths) result
+            ≡ (namespace_in self.now).declared (path_below self.now.paths path.now) }
     {
         let nodes = self.nodes.as_slice();
-        let hints = hints_of!(self);
-        kind_at(nodes, node_near(nodes, hints, near, path))
+        kind_at(nodes, node_below(nodes, path))
     }
 
     /// The kind of a path: the declared one, else the predefined one.
@@ -402,27 +391,16 @@ impl Space {
         ensures known { result ≡ kind_at (namespace_in self.now) path.now }
         ensures listed { (es : List Entry) → StandsFor self.now es → result ≡ kind_at (namespace_of es) path.now }
     {
-        self.kind_near(Near::root(), &path.parts())
-    }
-
-    /// The same of a path near a scope that is open.
-    #[tactic(auto, using(aml_namespace::proofs::Stands::kind_listed))]
-    pub fn kind_near(&self, near: Near, path: &Parts<'_>) -> Option<Kind<SpacePath<'_>>>
-        requires { IsNear self.now.scopes near path.now }
-        ensures known { result ≡ kind_at (namespace_in self.now) path.now }
-        ensures listed { (es : List Entry) → StandsFor self.now es → result ≡ kind_at (namespace_of es) path.now }
-    {
-        self.shown(self.kind_by_number(near, path))
+        self.shown(self.kind_by_number(path))
     }
 
     /// The same, with the number of an Alias's target.
-    fn kind_by_number(&self, near: Near, path: &Parts<'_>) -> Option<Kind<PathId>>
-        requires { IsNear self.now.scopes near path.now }
+    fn kind_by_number(&self, path: &Path) -> Option<Kind<PathId>>
         ensures { option_map (kind_in self.now.paths) result ≡ kind_at (namespace_in self.now) path.now }
     {
-        match self.declared(near, path) {
+        match self.declared(&self.whole(path.segs())) {
             Some(kind) => Some(kind),
-            None => predefined_of(path),
+            None => predefined_kind(path.segs()),
         }
     }
 
@@ -449,49 +427,42 @@ impl Space {
     }
 
     /// Whether a path is declared, by whatever declaration.
-    pub fn is_declared(&self, near: Near, path: &Parts<'_>) -> bool
-        requires { IsNear self.now.scopes near path.now }
-        ensures known { result ≡ declared_yet self.now path.now }
-        ensures listed { (es : List Entry) → StandsFor self.now es → result ≡ is_some (declared_at es path.now) }
+    pub fn is_declared(&self, path: &Below<'_>) -> bool
+        ensures known { result ≡ declared_yet self.now (path_below self.now.paths path.now) }
+        ensures listed { (es : List Entry) → StandsFor self.now es → result ≡ is_some (declared_at es (path_below self.now.paths path.now)) }
     {
-        self.declared(near, path).is_some()
+        self.declared(path).is_some()
     }
 
     /// Whether a path has a kind whatever runs: by a sure declaration, or since it is predefined.
-    pub fn is_sure(&self, near: Near, path: &Parts<'_>) -> bool
-        requires { IsNear self.now.scopes near path.now }
-        ensures known { result ≡ (outlook_in self.now).sure path.now }
-        ensures listed { (es : List Entry) → StandsFor self.now es → result ≡ sure_at es path.now }
+    pub fn is_sure(&self, path: &Below<'_>) -> bool
+        ensures known { result ≡ (outlook_in self.now).sure (path_below self.now.paths path.now) }
+        ensures listed { (es : List Entry) → StandsFor self.now es → result ≡ sure_at es (path_below self.now.paths path.now) }
     {
         let nodes = self.nodes.as_slice();
-        let hints = hints_of!(self);
-        let node = node_near(nodes, hints, near, path);
-        sure_met(nodes, node, predefined_of(path))
+        let node = node_below(nodes, path);
+        sure_met(nodes, node, standing_below(nodes, path))
     }
 
     /// Whether a Scope may open a path whatever runs: it has a kind then, and each of its kinds is a scope's (ACPI 6.5,
     /// 19.6.122).
-    pub fn is_scope(&self, near: Near, path: &Parts<'_>) -> bool
-        requires { IsNear self.now.scopes near path.now }
-        ensures known { result ≡ scope_in (outlook_in self.now) path.now }
-        ensures listed { (es : List Entry) → StandsFor self.now es → result ≡ scope_in (outlook_of es) path.now }
+    pub fn is_scope(&self, path: &Below<'_>) -> bool
+        ensures known { result ≡ scope_in (outlook_in self.now) (path_below self.now.paths path.now) }
+        ensures listed { (es : List Entry) → StandsFor self.now es → result ≡ scope_in (outlook_of es) (path_below self.now.paths path.now) }
     {
         let nodes = self.nodes.as_slice();
-        let hints = hints_of!(self);
-        let node = node_near(nodes, hints, near, path);
-        scope_met(nodes, node, predefined_of(path))
+        let node = node_below(nodes, path);
+        scope_met(nodes, node, standing_below(nodes, path))
     }
 
     /// Whether an Alias of a path is open: one of the path's kinds is an Alias that isn't the only kind, or is open.
-    pub fn is_open(&self, near: Near, path: &Parts<'_>) -> bool
-        requires { IsNear self.now.scopes near path.now }
-        ensures known { result ≡ open_in (outlook_in self.now) path.now }
-        ensures listed { (es : List Entry) → StandsFor self.now es → result ≡ open_in (outlook_of es) path.now }
+    pub fn is_open(&self, path: &Below<'_>) -> bool
+        ensures known { result ≡ open_in (outlook_in self.now) (path_below self.now.paths path.now) }
+        ensures listed { (es : List Entry) → StandsFor self.now es → result ≡ open_in (outlook_of es) (path_below self.now.paths path.now) }
     {
         let nodes = self.nodes.as_slice();
-        let hints = hints_of!(self);
-        let node = node_near(nodes, hints, near, path);
-        open_met(nodes, node, predefined_of(path))
+        let node = node_below(nodes, path);
+        open_met(nodes, node, standing_below(nodes, path))
     }
 
     /// How many arguments a path takes where the first declaration of a path counts: those of a method, also through an
@@ -505,26 +476,25 @@ impl Space {
         count_of(self.nodes.as_slice(), path)
     }
 
-    /// A scope near one that is open.
-    pub(crate) fn scope_near<'a>(&'a self, near: Near, path: Parts<'a>) -> Scope<'a>
-        requires { IsNear self.now.scopes near path }
+    /// A path as a scope.
+    pub(crate) fn scope_of<'a>(&'a self, path: &'a [Seg]) -> Scope<'a>
         ensures scope { IsScope result }
         ensures known { known_by result.nodes.now ≡ of_paths self.now }
         ensures names { names_of result ≡ namespace_in self.now }
         ensures outlook { outlook_at result ≡ outlook_in self.now }
-        ensures path { path_in result ≡ path.entry }
+        ensures path { path_in result ≡ path.now }
     {
         let nodes = self.nodes.as_slice();
-        let hints = hints_of!(self);
-        let reach = reach_near(nodes, hints, near, &path);
-        Scope::new(nodes, &self.ways, path, reach)
+        Scope::new(nodes, &self.ways, reach_from(nodes, 0, path))
     }
 
     /// The path of a number, as a scope.
     pub(crate) fn scope_at(&self, id: PathId) -> Scope<'_>
         ensures scope { IsScope result }
         ensures known { known_by result.nodes.now ≡ of_paths self.now }
+        ensures paths { paths_in result.nodes.now ≡ self.now.paths }
         ensures path { path_in result ≡ path_at self.now id }
+        ensures whole { result.last.depth ≡ length (path_in result) }
     {
         let nodes = self.nodes.as_slice();
         Scope::at(nodes, &self.ways, numbered(nodes, id))

@@ -8,7 +8,6 @@ ghost use Rattle.aml_space.specs.Nodes.{kids_of, IsIndex};
 ghost use Rattle.aml_space.specs.Candidates.{AreEdged, AreSteps, AreWays};
 
 use crate::edges::Edges;
-use crate::growing::Reach;
 use crate::nodes::Node;
 use crate::parents::{depth_at, link};
 use aml_names::NoMemory;
@@ -70,28 +69,6 @@ fn add_edge(edges: &mut Edges, nodes: &[Node], at: usize) -> Result<(), NoMemory
     }
     let (parent, seg) = link(nodes, at);
     edges.add(seg, parent)
-}
-
-/// The node to which one steps, if that isn't above the front of so many segments.
-pub(crate) fn stepped(steps: &[PathId], nodes: &[Node], from: Reach, known: usize) -> Option<Reach>
-    requires index { IsIndex nodes.now }
-    requires steps { AreSteps nodes.now steps.now }
-    requires within { from.node < length nodes.now }
-    ensures led { (path : List AnySeg) → from.known ≤ length path →
-        walk (kids_of nodes.now) 0 (take from.known path) ≡ Some from.node →
-        IfSome result (λ r. walk (kids_of nodes.now) 0 (take r.known path) ≡ Some r.node) }
-    ensures within { IfSome result (λ r. (known ≤ r.known) × (r.known < from.known)) }
-{
-    let over = step_from(steps, from.node);
-    let depth = depth_at(nodes, over) as usize;
-    if known <= depth && depth < from.known {
-        Some(Reach {
-            node: over,
-            known: depth,
-        })
-    } else {
-        None
-    }
 }
 
 impl Ways {

@@ -103,6 +103,20 @@ indent_whole n i j p q =
     sym (ap indent (div-add-mod n 4)) ∙ indent_sum (4 * (n / 4)) (n % 4)
     ∙ ap (λ k. indent (4 * k) ++ indent (n % 4)) (sym p) ∙ ap (λ k. indent (4 * i) ++ indent k) (sym q)
 
+-- spaces of at most sixteen
+pub indent_front : (n : ℕ) → n ≤ 8 → take (n * 2) (replicate 16 32) ≡ indent n
+unfolding indent word
+indent_front zero few = refl
+indent_front (suc zero) few = refl
+indent_front (suc (suc zero)) few = refl
+indent_front (suc (suc (suc zero))) few = refl
+indent_front (suc (suc (suc (suc zero)))) few = refl
+indent_front (suc (suc (suc (suc (suc zero))))) few = refl
+indent_front (suc (suc (suc (suc (suc (suc zero)))))) few = refl
+indent_front (suc (suc (suc (suc (suc (suc (suc zero))))))) few = refl
+indent_front (suc (suc (suc (suc (suc (suc (suc (suc zero)))))))) few = refl
+indent_front (suc (suc (suc (suc (suc (suc (suc (suc (suc n))))))))) few = absurd (omega (arith, few))
+
 pub ruleset indents = (indent_none, indent_more, indent_four, indent_whole)
 
 -- ---- names

@@ -15,8 +15,24 @@ use aml_code::{Field, Link, Node, Seg, Tail};
 use std::io::Write;
 use text_writer::{Out, print_decimal};
 
+/// The spaces of eight levels.
+const SPACES: [u8; 16] = [b' '; 16];
+
 /// Two spaces for each level.
+#[inline]
 pub fn print_indent<W: Write>(out: &mut Out<'_, W>, level: u32)
+    ensures { Prints W.contents out.old out.new (indent level) }
+{
+    if level <= 8 {
+        out.put_front(&SPACES, level as usize * 2);
+    } else {
+        print_deep_indent(out, level);
+    }
+}
+
+/// The same of any level.
+#[inline(never)]
+fn print_deep_indent<W: Write>(out: &mut Out<'_, W>, level: u32)
     ensures { Prints W.contents out.old out.new (indent level) }
 {
     for _i in 0..level / 4 {

@@ -3,7 +3,7 @@ ghost use Rattle.std.specs.Prelude.{◌≡◌, ◌≤◌, ◌∷◌, ◌+◌, le
 ghost use Rattle.std.specs.Option.{unwrap_or};
 ghost use Rattle.std.specs.Io.KnownBytes.{Appends};
 
-use crate::buffer::{place, place_two};
+use crate::buffer::{place, place_front, place_two};
 use std::io::{ErrorKind, Write};
 use thiserror::Error;
 
@@ -120,6 +120,22 @@ impl<'w, W: Write> Out<'w, W> {
             self.len = place_two(self.buffer, self.len, first, second);
         } else {
             self.spill(&[first, second]);
+        }
+    }
+
+    /// Prints the first of some bytes, so many of them.
+    #[inline(always)]
+    pub fn put_front(&mut self, bytes: &[u8; 16], count: usize)
+        requires { count ≤ 16 }
+        ensures { Prints W.contents self.old self.new (take count bytes.now) }
+    {
+        if self.failed {
+            return;
+        }
+        if 16 <= self.room() {
+            self.len = place_front(self.buffer, self.len, bytes, count);
+        } else {
+            self.spill(&bytes[..count]);
         }
     }
 

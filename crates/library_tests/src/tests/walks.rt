@@ -1,7 +1,7 @@
 //! The terms of a load, each where it stands, with the constants, the field units and the regions in them.
 use super::fixtures::{OfLoad, Want, holds_of_load, holds_of_loaded, is_whole_or_no_memory};
 use aml_code::{Name, Node, Part, Path, Seg, listed_row};
-use aml_load::{LoadFault, StandingTerm, load_any_run, standing_terms};
+use aml_load::{LoadFault, StandingTerm, StandingTerms, load_any_run, standing_terms};
 use aml_set::Loaded;
 use aml_walk::{FieldBase, FieldUnit, base_of, number_of, unit_at, units_of};
 use std::alloc::{AllocError, Global};
@@ -93,37 +93,34 @@ fn push_numbers(out: &mut String, parts: &[Part]) -> Result<(), AllocError> {
     Ok(())
 }
 
-/// Adds the path that a name means where a term stands.
+/// Adds the path that a name means in a scope.
 fn push_path(
     alloc: Global,
     out: &mut String,
     loaded: &Loaded<'_>,
-    standing: &StandingTerm<'_>,
+    scope: &Path,
     name: &Name,
 ) -> Result<(), AllocError> {
-    if let Some(path) = loaded
-        .space
-        .find(alloc, &standing.scope.to_path(alloc)?, name)?
-    {
+    if let Some(path) = loaded.space.find(alloc, scope, name)? {
         write!(out, " {path}")?;
     }
     Ok(())
 }
 
-/// Adds what the field list of a term lies over.
+/// Adds what a field list lies over that stands in a scope.
 fn push_base(
     alloc: Global,
     out: &mut String,
     loaded: &Loaded<'_>,
-    standing: &StandingTerm<'_>,
+    scope: &Path,
     base: FieldBase<'_>,
 ) -> Result<(), AllocError> {
     out.push_str(" over")?;
     match base {
-        FieldBase::Region(region) => push_path(alloc, out, loaded, standing, region),
+        FieldBase::Region(region) => push_path(alloc, out, loaded, scope, region),
         FieldBase::Index(first, second) | FieldBase::Bank(first, second) => {
-            push_path(alloc, out, loaded, standing, first)?;
-            push_path(alloc, out, loaded, standing, second)
+            push_path(alloc, out, loaded, scope, first)?;
+            push_path(alloc, out, loaded, scope, second)
         }
     }
 }
@@ -140,13 +137,14 @@ fn push_fields(
     alloc: Global,
     out: &mut String,
     loaded: &Loaded<'_>,
-    standing: &StandingTerm<'_>,
+    scope: &Path,
+    term: &Node,
 ) -> Result<(), AllocError> {
-    let Some(base) = base_of(standing.term) else {
+    let Some(base) = base_of(term) else {
         return Ok(());
     };
-    push_base(alloc, out, loaded, standing, base)?;
-    let units = units_of(alloc, standing.term)?;
+    push_base(alloc, out, loaded, scope, base)?;
+    let units = units_of(alloc, term)?;
     push_units(out, &units)
 }
 
@@ -154,6 +152,7 @@ fn push_term(
     alloc: Global,
     out: &mut String,
     loaded: &Loaded<'_>,
+    scope: &Path,
     standing: &StandingTerm<'_>,
 ) -> Result<(), AllocError> {
     let Node::Op { opcode, parts, .. } = standing.term else {
@@ -163,9 +162,9 @@ fn push_term(
         Some(row) => row.mnemonic,
         None => "",
     };
-    write!(out, "{} {} {title}", standing.table, standing.scope)?;
+    write!(out, "{} {scope} {title}", standing.table)?;
     push_numbers(out, parts.as_slice())?;
-    push_fields(alloc, out, loaded, standing)?;
+    push_fields(alloc, out, loaded, scope, standing.term)?;
     out.push_str(if standing.sure { "\n" } else { " Maybe\n" })
 }
 
@@ -173,10 +172,11 @@ fn push_terms(
     alloc: Global,
     out: &mut String,
     loaded: &Loaded<'_>,
-    terms: &[StandingTerm<'_>],
+    standing: &StandingTerms<'_>,
 ) -> Result<(), AllocError> {
-    for standing in terms {
-        push_term(alloc, out, loaded, standing)?;
+    for term in &standing.terms {
+        let scope = standing.space.path(term.scope()).to_path(alloc)?;
+        push_term(alloc, out, loaded, &scope, term)?;
     }
     Ok(())
 }
@@ -185,7 +185,7 @@ fn push_terms(
 /// its number of bits.
 fn has_unit(
     alloc: Global,
-    terms: &[StandingTerm<'_>],
+    terms: &StandingTerms<'_>,
     segment: &[u8; 4],
     wanted: Option<(usize, u64, u32)>,
 ) -> Result<bool, AllocError> {
@@ -200,11 +200,7 @@ fn has_unit(
 }
 
 /// Whether units are found by their paths.
-fn has_units(
-    alloc: Global,
-    terms: &[StandingTerm<'_>],
-    units: &[Unit],
-) -> Result<bool, AllocError> {
+fn has_units(alloc: Global, terms: &StandingTerms<'_>, units: &[Unit]) -> Result<bool, AllocError> {
     for unit in units {
         if !has_unit(alloc, terms, unit.0, unit.1)? {
             return Ok(false);
@@ -217,7 +213,7 @@ fn has_units(
 fn are_terms(
     alloc: Global,
     loaded: &Loaded<'_>,
-    terms: &[StandingTerm<'_>],
+    terms: &StandingTerms<'_>,
     wanted: &Terms,
 ) -> Result<bool, AllocError> {
     let mut text = String::new(alloc);
@@ -229,7 +225,7 @@ fn are_terms(
 fn has_terms(
     alloc: Global,
     loaded: &Loaded<'_>,
-    answer: &Result<Vec<StandingTerm<'_>>, LoadFault>,
+    answer: &Result<StandingTerms<'_>, LoadFault>,
     wanted: &Terms,
 ) -> Result<bool, Want> {
     match answer {

@@ -1,4 +1,4 @@
-use Rattle.std.proofs.Common.{ℕ, true, List, [], length, Vec, Result, Ok, Err, ap, inl, inr}
+use Rattle.std.proofs.Common.{ℕ, true, List, [], Vec, Result, Ok, Err, ap, inl, inr}
 use Rattle.std.specs.declared.alloc.Global.{Global}
 use Rattle.aml_code.specs.Tree.{Trees}
 use Rattle.aml_code.specs.View.{nodes_view}
@@ -17,16 +17,16 @@ use Rattle.aml_load.proofs.loading.load_table.Goals as goal
 listed : Result (Trees × Front) LoadFault → Result (Trees × Listed) LoadFault
 listed r = r >>= λ x. Ok (x.0, x.1.listed)
 
-ran : (new : Progress) (t place : ℕ) (l : Listed) (code : List ℕ) (r : Result (Vec Node Global) LoadFault)
-    → AllRan new (record { table = t; scope = []; place = place; sure = true }) r (run_table_at (run_names t) code (table_front t l))
+ran : (new : Progress) (t : ℕ) (l : Listed) (code : List ℕ) (r : Result (Vec Node Global) LoadFault)
+    → AllRan new (record { table = t; scope = []; any_run = true; sure = true }) r (run_table_at (run_names t) code (table_front t l))
     → TableWalked (λ (x : Vec Node Global). nodes_view x.items) new r (table_at true t l code)
 unfolding table_at listed
-ran new t place l code (Ok x) (m, holds, is) = (m, holds, ap listed is)
-ran new t place l code (Err e) (inl want) = inl want
-ran new t place l code (Err e) (inr is) = inr (ap listed is)
+ran new t l code (Ok x) (m, holds, is) = (m, holds, ap listed is)
+ran new t l code (Err e) (inl want) = inl want
+ran new t l code (Err e) (inr is) = inr (ap listed is)
 
 pub returns-then-any_run : goal.returns-then-any_run
-returns-then-any_run c l h = rw c.if-any_run.true (ran _ c.args.table (length c.args.progress.now.space.scopes) l c.args.code.now _ (c.run_table.ensures l h))
+returns-then-any_run c l h = rw c.if-any_run.true (ran _ c.args.table l c.args.code.now _ (c.run_table.ensures l h))
 
 pub returns-else-any_run : goal.returns-else-any_run
 returns-else-any_run c l h = rw c.if-any_run.false (c.load_whole_table.ensures l h)

@@ -8,6 +8,6 @@ use Rattle.aml_space.proofs.counting.count_of.Goals as goal
 pub returns : goal.returns
 returns c =
     let ns = c.args.nodes.now in
-    c.count_met.ensures ∙ count_of_met ns c.requires.shape c.args.path.now c.node_of-node.result
-    (c.node_of-node.ensures.node ∙ ap (walk (kids_of ns) 0) c.parts.ensures) _
-    (c.predefined_kind.ensures (paths_in ns) ∙ ap predefined c.segs.ensures)
+    c.count_met.ensures ∙ count_of_met ns c.requires.shape c.args.path.now c.node_from-node.result
+    (c.node_from-node.ensures.node ∙ ap (walk (kids_of ns) 0) c.segs.ensures) _
+    (c.predefined_kind.ensures (paths_in ns) ∙ ap predefined c.segs-2.ensures)

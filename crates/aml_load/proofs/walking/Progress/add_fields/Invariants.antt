@@ -9,6 +9,6 @@ abbrev pub invariant-loop-field : goal.invariant-loop-field
 invariant-loop-field x = record {
   stays : Stays x.initial.self x.self;
   walks : (l : Listed) → Holds x.initial.self l → (m : Listed) × Holds x.self m
-      × (units_at (at_site x.site) m (unit_names (fields_view (drop x.field-index x.fields)))
-      ≡ units_at (at_site x.site) l (unit_names (fields_view x.fields)));
+      × (units_at (at_site x.initial.self.space x.site) m (unit_names (fields_view (drop x.field-index x.fields)))
+      ≡ units_at (at_site x.initial.self.space x.site) l (unit_names (fields_view x.fields)));
 }

@@ -1,6 +1,5 @@
 use Rattle.std.specs.Prelude.{OnOk}
-use Rattle.std.proofs.Common.{Result, Ok, Err, ◌≡◌, ◌++◌, [], ap, refl, ◌∙◌}
-use Rattle.std.proofs.lemmas.Option.{slice_get_within, get_or_from_slice_get}
+use Rattle.std.proofs.Common.{Result, Ok, Err, ◌≡◌, ◌++◌, ap, refl, ◌∙◌}
 use Rattle.aml_namespace.specs.Known.{path_at}
 use Rattle.aml_code.specs.View.{node_view}
 use Rattle.aml_load.specs.Groups.{named_in, uses_of}
@@ -19,15 +18,12 @@ of_both (Err e) a b new = tt
 pub returns-clause-asks : goal.returns-clause-asks
 returns-clause-asks c =
     let s = c.args.site.now in
-    let scope = s.scope.now in
-    let x = node_view c.args.term.now in
     let old = c.args.self.now in
     let k = old.space in
-    let there = c.open_scope-scope.ensures scope c.requires in
-    let names : named_in (path_at k c.open_scope-scope.result) c.add_names.new.asked.items ≡ term_uses (at_site s) x =
-    ap (λ p. named_in p c.add_names.new.asked.items) (get_or_from_slice_get k.paths c.open_scope-scope.result scope [] there)
-    ∙ c.in_ok-add_names.ensures scope
-    ∙ ap (λ ns. named_in scope ns ++ term_uses (strict s.table scope) x) c.new-names.ensures.items in
+    let scope = path_at k s.scope in
+    let x = node_view c.args.term.now in
+    let names : named_in scope c.add_names.new.asked.items ≡ term_uses (at_site k s) x =
+    c.in_ok-add_names.ensures scope ∙ ap (λ ns. named_in scope ns ++ term_uses (strict s.table scope) x) c.new-names.ensures.items in
     of_both c.add_group.result (λ l h. c.add_group.ensures.added k)
-    (λ l h. c.add_group.ensures.known k (slice_get_within k.paths c.open_scope-scope.result scope there) h.known)
-    (λ l h added known. uses_held old _ l (at_site s) x h refl refl (added ∙ ap (λ us. uses_of k old.uses.items ++ us) names) known)
+    (λ l h. c.add_group.ensures.known k c.requires h.known)
+    (λ l h added known. uses_held old _ l (at_site k s) x h refl refl (added ∙ ap (λ us. uses_of k old.uses.items ++ us) names) known)

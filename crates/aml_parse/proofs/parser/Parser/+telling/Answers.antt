@@ -18,6 +18,7 @@ use Rattle.aml_parse.proofs.TellLaws.{fields_told, grew_one, told_line, told_ite
 use Rattle.aml_parse.proofs.TellLaws.{label_one, units_one, plain_told, label_told, taken_listed, IsOneField}
 use Rattle.aml_parse.proofs.TellLaws.{call_is, plain_is, packed_is, no_lead, name_read, nothing_read, opcode_stops}
 use Rattle.aml_parse.proofs.TellLaws.{reserved_read, access_read, extended_read, named_read, link_name, link_buffer, connection_read}
+use Rattle.aml_parse.proofs.ShortLaws.{none_read}
 use Rattle.aml_parse.proofs.Common.{name_at, little_at, field_view, tail_in}
 use Rattle.aml_code.specs.View.{link_view}
 use Rattle.aml_parse.proofs.parser.Parser.+telling.Goals as goal
@@ -31,37 +32,37 @@ same x = x
 
 -- ---- arguments
 
-pub tell_arguments-loop-i-init : goal.tell_arguments-loop-i-init
-tell_arguments-loop-i-init g t c =
+pub tell_each-loop-i-init : goal.tell_each-loop-i-init
+tell_each-loop-i-init g t c =
     let all : c.args.count - 0 ≡ c.args.count = omega arith in
     ([], c.requires.fits, rw all (rest_none tree_more _), refl, refl, g.met.S.Sink.nothing _)
 
-pub tell_arguments-returns-in_err-_is_if-clause-fails : goal.tell_arguments-returns-in_err-_is_if-clause-fails
-tell_arguments-returns-in_err-_is_if-clause-fails g t c =
+pub tell_each-returns-in_err-rest-clause-fails : goal.tell_each-returns-in_err-rest-clause-fails
+tell_each-returns-in_err-rest-clause-fails g t c =
     let inv = c.loop-i.invariant in
     let failed =
-    arguments_fails (same {A = Tree}) _ inv.0 _ _ _ _ c.in_err-_is_if.field-0.0 (c.args.count - c.loop-i._i)
-    (omega (arith, c.loop-i-test.true)) (rw c.requires.argument at c.in_err-_is_if.ensures.fails) inv.2 in
+    arguments_fails (same {A = Tree}) _ inv.0 _ _ _ _ c.in_err-rest.field-0.0 (c.args.count - c.loop-i._i)
+    (omega (arith, c.loop-i-test.true)) (rw c.requires.argument at c.in_err-rest.ensures.fails) inv.2 in
     search rules
 
-pub tell_arguments-loop-i-preserved : goal.tell_arguments-loop-i-preserved
-tell_arguments-loop-i-preserved g t c =
+pub tell_each-loop-i-preserved : goal.tell_each-loop-i-preserved
+tell_each-loop-i-preserved g t c =
     let inv = c.loop-i.invariant in
-    let told = rw c.requires.argument at c.in_ok-_is_if.ensures.told in
+    let told = rw c.requires.argument at c.in_ok-rest.ensures.told in
     let less : c.args.count - c.loop-i._i - 1 ≡ c.args.count - (c.loop-i._i + 1) = omega arith in
     let next =
     arguments_go_on (same {A = Tree}) _ inv.0 _ _ _ _ (c.args.count - c.loop-i._i) told.0 _ _
     (omega (arith, c.loop-i-test.true)) told.1.0 inv.2 in (
       inv.0 ++ told.0 ∷ [],
-      c.in_ok-_is_if.ensures.fits,
+      c.in_ok-rest.ensures.fits,
       rw less at next,
       some_now inv.0 told.0,
       length-append inv.0 (told.0 ∷ []) ∙ ap (λ n. n + 1) inv.4,
       told_item _ g.met.S.Sink.further c.args.here.level _ _ _ _ c.loop-i.is_first inv.0 told.0 inv.3 inv.5 c.in_ok-tell_separator.ensures told.1.1.1,
     )
 
-pub tell_arguments-returns-clause-told : goal.tell_arguments-returns-clause-told
-tell_arguments-returns-clause-told g t c =
+pub tell_each-returns-clause-told : goal.tell_each-returns-clause-told
+tell_each-returns-clause-told g t c =
     let inv = c.loop-i.invariant in (
       trees_of inv.0,
       (
@@ -69,6 +70,11 @@ tell_arguments-returns-clause-told g t c =
         (trees_counted inv.0 ∙ omega (arith, inv.4, c.loop-i-test.false), inv.5),
       ),
     )
+
+pub tell_arguments-returns-then-count-eq0-clause-told : goal.tell_arguments-returns-then-count-eq0-clause-told
+tell_arguments-returns-then-count-eq0-clause-told g t c =
+    let none : c.args.count ≡ 0 = search rules in
+    (no_trees, (rw none (none_read _ _ _ _), (sym none, g.met.S.Sink.nothing _)))
 
 -- ---- parts
 
@@ -296,7 +302,7 @@ tell_call-returns-clause-told g t c =
 
 pub tell_child-returns-clause-told : goal.tell_child-returns-clause-told
 tell_child-returns-clause-told g t c =
-    let told = c.in_ok-_is_if.ensures.told in (child told.0, (rw told.1.0 refl, ((λ label. refl), told.1.1.1)))
+    let told = c.in_ok-rest.ensures.told in (child told.0, (rw told.1.0 refl, ((λ label. refl), told.1.1.1)))
 
 pub tell_plain-returns-clause-told : goal.tell_plain-returns-clause-told
 tell_plain-returns-clause-told g t c =

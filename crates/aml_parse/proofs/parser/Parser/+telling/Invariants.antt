@@ -19,6 +19,9 @@ decreases-tell_call g l = 8 * l.here.levels + 6
 abbrev pub decreases-tell_arguments : goal.decreases-tell_arguments
 decreases-tell_arguments g l = 8 * l.here.levels + 5
 
+abbrev pub decreases-tell_each : goal.decreases-tell_each
+decreases-tell_each g l = 8 * l.here.levels + 4
+
 abbrev pub decreases-tell_plain : goal.decreases-tell_plain
 decreases-tell_plain g l = 8 * l.here.levels + 6
 
@@ -33,6 +36,9 @@ decreases-tell_part g l = 8 * l.here.levels + 4
 
 abbrev pub decreases-tell_child : goal.decreases-tell_child
 decreases-tell_child g l = 8 * l.here.levels + 3
+
+abbrev pub decreases-tell_inner : goal.decreases-tell_inner
+decreases-tell_inner g l = 8 * l.here.levels + 1
 
 abbrev pub decreases-tell_tail : goal.decreases-tell_tail
 decreases-tell_tail g l = 8 * l.here.levels + 5
@@ -55,8 +61,8 @@ decreases-tell_link g l = 8 * l.here.levels + 2
 abbrev same : {A : Type 0} → A → A
 same x = x
 
-abbrev pub invariant-tell_arguments-loop-i : goal.invariant-tell_arguments-loop-i
-invariant-tell_arguments-loop-i g l =
+abbrev pub invariant-tell_each-loop-i : goal.invariant-tell_each-loop-i
+invariant-tell_each-loop-i g l =
     (front : List Tree) × g.N.Names.fits l.self.names.now l.locals × (
     then_rest same tree_more front (arguments_at (read_by g.N.Names.arity g.N.Names.scope l.self l.here.levels) (l.count - l._i) l.end (g.N.Names.paths l.self.names.now l.locals) l.rest)
     ≡ arguments_at (read_by g.N.Names.arity g.N.Names.scope l.self l.here.levels) l.count l.end (g.N.Names.paths l.self.names.now l.initial.locals) l.initial.rest)

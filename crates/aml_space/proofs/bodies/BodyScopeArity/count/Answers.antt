@@ -5,20 +5,17 @@ use Rattle.aml_namespace.proofs.Stands.{same_outlook}
 use Rattle.aml_space.specs.Candidates.{path_in}
 use Rattle.aml_space.proofs.bodies.BodyScopeArity.count.Goals as goal
 
-pub scope_near-here-requires : goal.scope_near-here-requires
-scope_near-here-requires c = c.root.ensures.near _ _
-
 pub count_name-requires-clause-seen : goal.count_name-requires-clause-seen
-count_name-requires-clause-seen c = c.parts-scope.ensures ∙ sym (c.scope_near-here.ensures.path ∙ c.parts.ensures)
+count_name-requires-clause-seen c = sym (c.scope_of-here.ensures.path ∙ c.segs.ensures)
 
 pub returns-clause-known : goal.returns-clause-known
 returns-clause-known c =
     let body = c.args.self.now in
     subst (λ p. IfOk c.count_name.result (λ count. count
     ≡ agreed_arity (outlook_in body.space.now) body.unknown_zero p c.args.locals.now c.args.name.now))
-    (c.scope_near-here.ensures.path ∙ c.parts.ensures)
+    (c.scope_of-here.ensures.path ∙ c.segs.ensures)
     (subst (λ k. IfOk c.count_name.result (λ count. count ≡ agreed_arity (outlook_in k)
-    body.unknown_zero (path_in c.scope_near-here.result) c.args.locals.now c.args.name.now)) c.scope_near-here.ensures.known c.count_name.ensures)
+    body.unknown_zero (path_in c.scope_of-here.result) c.args.locals.now c.args.name.now)) c.scope_of-here.ensures.known c.count_name.ensures)
 
 pub returns-clause-listed : goal.returns-clause-listed
 returns-clause-listed c = λ es stands.

@@ -13,8 +13,8 @@ link-requires c =
     let s = c.args.self.now in
     node_range c.requires.scope.index.shape (take c.level_at.result.depth (path_in s)) c.level_at.result.node c.level_at.ensures.level.led
 
-pub segment-requires : goal.segment-requires
-segment-requires c = omega (arith, long_is c.args.self.now c.requires.scope, c.requires.within, c.if-place-self.false)
+pub segment_of-requires : goal.segment_of-requires
+segment_of-requires c = omega (arith, long_is c.args.self.now c.requires.scope, c.requires.within, c.if-place-self.false)
 
 pub returns-then-place-self : goal.returns-then-place-self
 returns-then-place-self c =
@@ -23,4 +23,4 @@ returns-then-place-self c =
     ap (λ (l : ℕ × Seg). l.1) c.link.ensures ∙ segment_led s c.requires.scope c.args.place c.level_at.result.node c.requires.within led
 
 pub returns-else-place-self : goal.returns-else-place-self
-returns-else-place-self c = c.segment.ensures ∙ segment_beyond c.args.self.now c.requires.scope c.args.place c.if-place-self.false
+returns-else-place-self c = c.segment_of.ensures ∙ segment_beyond c.args.self.now c.requires.scope c.args.place c.if-place-self.false

@@ -1,4 +1,6 @@
+use Rattle.std.proofs.Common.{◌∙◌}
+use Rattle.aml_namespace.proofs.Stands.{kind_listed}
 use Rattle.aml_space.proofs.spaces.Space.kind.Goals as goal
 
-pub kind_near-requires : goal.kind_near-requires
-kind_near-requires c = c.root.ensures.near _ _
+pub returns-clause-listed : goal.returns-clause-listed
+returns-clause-listed c = λ es stands. kind_listed c.args.self.now es c.args.path.now _ stands (c.shown.ensures ∙ c.kind_by_number.ensures)

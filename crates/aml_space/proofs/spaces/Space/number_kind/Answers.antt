@@ -6,9 +6,6 @@ use Rattle.aml_namespace.proofs.Aimed.{kind_numbered}
 use Rattle.aml_space.proofs.spaces.Space.number_kind.Goals as goal
 use Rattle.aml_space.proofs.spaces.Space.number_kind.Goals.{in-None, in-Some+in_ok-target-in-Some, After-aimed_at}
 
-pub number-requires : goal.number-requires
-number-requires c = c.root.ensures.near _ _
-
 shown : (c : After-aimed_at) → (kind_in c.match-target.self.paths c.aimed_at.result ≡ c.args.kind.now)
     × IsAmong (length c.match-target.self.paths) c.aimed_at.result
 shown c =
@@ -17,7 +14,7 @@ shown c =
       | in-None w ↦ subst (λ o. IfSome o (λ p. slice_get paths c.match-target.target ≡ Some p)) (ap option_copied (sym w.in-None.is) ∙ c.target.ensures) tt
       | in-Some+in_ok-target-in-Some w ↦ subst (λ o. IfSome o (λ p. slice_get paths c.match-target.target ≡ Some p))
           (ap option_copied (sym w.in-Some.is) ∙ c.target.ensures)
-          ((λ i. slice_get (w.self-is i).paths (w.target-is i)) ∙ w.in_ok-target-in-Some.ensures.ok ∙ ap (λ p. Some p) w.parts.ensures)
+          ((λ i. slice_get (w.self-is i).paths (w.target-is i)) ∙ w.in_ok-target-in-Some.ensures.ok ∙ ap (λ p. Some p) (w.whole.ensures ∙ w.segs.ensures))
     ] in
     let told = kind_numbered paths c.args.kind.now c.match-target.target led in
     (ap (kind_in paths) c.aimed_at.ensures ∙ told.0, subst (IsAmong (length paths)) (sym c.aimed_at.ensures) told.1)

@@ -6,14 +6,15 @@ use Rattle.aml_namespace.specs.Known.{Known, namespace_in}
 use Rattle.aml_namespace.specs.Namespace.{target_by}
 use Rattle.aml_namespace.specs.Predefined.{predefined}
 use Rattle.aml_space.specs.Nodes.{path_of, paths_in, IsIndex}
-use Rattle.aml_space.proofs.Opening.{numbered}
+use Rattle.aml_space.proofs.Keeping.{numbered}
+use Rattle.aml_space.specs.Below.{path_below}
 use Rattle.aml_space.proofs.spaces.Space.number_target.Goals as goal
 
 pub returns-in-Some-Alias-clause-ok : goal.returns-in-Some-Alias-clause-ok
 returns-in-Some-Alias-clause-ok c =
     let ns = c.as_slice.result.now in
     let k = c.args.self.now in
-    let path = c.args.path.now in
+    let path = (path_below c.args.self.now.paths c.args.path.now) in
     let nodes = c.as_slice.ensures.value in
     let paths = ap paths_in nodes ∙ ap (λ (k : Known). k.paths) c.self.view_is in
     let at = c.numbered-at.result in
