@@ -1,6 +1,6 @@
 //! How many arguments a path takes.
 ghost use Rattle.std.specs.Prelude.{◌≡◌, ◌<◌, ◌∷◌, ◌||◌, Some, None, cond, is_some, length, map, flat_map};
-ghost use Rattle.std.specs.Prelude.{option_to_list, IfSome, ◌&&◌, not, nat_lt, false, List};
+ghost use Rattle.std.specs.Prelude.{option_to_list, IfSome, IsTrue, ◌&&◌, not, nat_lt, false, List};
 ghost use Rattle.aml_names.specs.declared.segments.Seg.{Seg as AnySeg};
 ghost use Rattle.std.specs.List.{list_all, list_any};
 ghost use Rattle.std.specs.Option.{option_map, option_or, option_and_then, option_copied};
@@ -10,7 +10,8 @@ ghost use Rattle.aml_namespace.specs.Runs.{target_counts, counts_by, opens_scope
 ghost use Rattle.aml_namespace.specs.Runs.{is_open_alias as is_open_kind, open_among};
 ghost use Rattle.aml_namespace.specs.Kinds.{target_in, kind_in};
 ghost use Rattle.aml_space.specs.Nodes.{kinds_of, declared_of, outs_of, known_by, paths_in, said_in, kind_shown};
-ghost use Rattle.aml_space.specs.Nodes.{IsIndex};
+ghost use Rattle.aml_space.specs.Nodes.{IsIndex, path_of};
+ghost use Rattle.aml_namespace.specs.Predefined.{predefined};
 ghost use Rattle.aml_namespace.specs.Tallies.{joined, counts_in, own_count, is_nothing};
 
 use crate::nodes::Node;
@@ -130,6 +131,20 @@ fn or_outside(counts: Counts, out: Option<u8>) -> Counts
     }
 }
 
+/// The predefined kind of a node's path, where what is declared leaves it standing.
+fn standing_behind(nodes: &[Node], node: usize, said: Option<&Declarations>) -> Option<Kind<PathId>>
+    requires index { IsIndex nodes.now }
+    requires within { node < length nodes.now }
+    ensures { (paths : List (List AnySeg)) → map (kind_in paths) (kinds_by (option_copied said.entry) result)
+        ≡ kinds_by (option_map (said_in paths) (option_copied said.entry)) (predefined (path_of nodes.now node)) }
+{
+    if is_surely_declared(said) {
+        None
+    } else {
+        standing_at(nodes, node)
+    }
+}
+
 /// The counts of what may stand at the target of an Alias.
 fn counts_of_target(nodes: &[Node], target: PathId) -> Counts
     requires { IsIndex nodes.now }
@@ -137,7 +152,8 @@ fn counts_of_target(nodes: &[Node], target: PathId) -> Counts
         result ≡ counts_in (target_counts (outlook.kinds path) (outlook.first.outs path)) }
 {
     let node = numbered(nodes, target);
-    let counts = targets_met(declared_at(nodes, Some(node)), standing_at(nodes, node));
+    let said = declared_at(nodes, Some(node));
+    let counts = targets_met(said, standing_behind(nodes, node, said));
     or_outside(counts, out_at(nodes, Some(node)))
 }
 
@@ -158,15 +174,43 @@ fn counts_of_kind(nodes: &[Node], kind: Kind<PathId>) -> Counts
     }
 }
 
-/// Those of several kinds, behind others.
+/// Whether both are Aliases of one target that are not open.
+fn is_same_alias(last: Option<Kind<PathId>>, kind: Kind<PathId>) -> bool
+    ensures { IsTrue result → last ≡ Some kind }
+{
+    match (last, kind) {
+        (
+            Some(
+                Kind::Alias {
+                    is_open: false,
+                    target: met,
+                },
+            ),
+            Kind::Alias {
+                is_open: false,
+                target,
+            },
+        ) => met.is(target),
+        _ => false,
+    }
+}
+
+/// Those of several kinds, behind others. Thousands may be Aliases of one target, which is looked up once.
 fn counts_of_kinds(nodes: &[Node], first: Counts, kinds: &[Kind<PathId>]) -> Counts
     requires { IsIndex nodes.now }
     ensures { result ≡ joined first (counts_in (flat_map (counts_by (outlook_in (known_by nodes.now)))
         (map (kind_in (paths_in nodes.now)) kinds.now))) }
 {
     let mut counts = first;
+    let mut last: Option<Kind<PathId>> = None;
     for kind in kinds {
-        counts = counts.joined(counts_of_kind(nodes, *kind));
+        if matches!(counts, Counts::Several) {
+            return counts;
+        }
+        if !is_same_alias(last, *kind) {
+            counts = counts.joined(counts_of_kind(nodes, *kind));
+        }
+        last = Some(*kind);
     }
     counts
 }

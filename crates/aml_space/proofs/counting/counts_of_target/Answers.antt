@@ -14,7 +14,7 @@ use Rattle.std.proofs.Common.{Some}
 use Rattle.std.specs.Option.{option_copied}
 use Rattle.aml_namespace.specs.Kinds.{target_in}
 use Rattle.aml_space.specs.Nodes.{paths_in}
-use Rattle.aml_namespace.proofs.Aimed.{kinds_aimed}
+use Rattle.aml_namespace.specs.Predefined.{predefined}
 
 pub returns : goal.returns
 returns c =
@@ -23,13 +23,12 @@ returns c =
     let p = path_of ns at in
     let o = outlook_in (known_by ns) in
     let met = sym (c.requires.there at c.numbered-node.ensures.within) in
-    let said = c.declared_at.ensures ∙ declared_there ns c.requires.shape p (Some at) met in
-    let seen = ap counts_in (own_aimed (target_in (paths_in ns)) (kinds_by (option_copied c.declared_at.result) c.standing_at.result))
-    ∙ sym c.targets_met-counts.ensures in
+    let kinds = kinds_by (option_copied c.declared_at-said.result) c.standing_behind.result in
+    let seen = c.standing_behind.ensures (paths_in ns)
+    ∙ ap (λ d. kinds_by d (predefined p)) (c.declared_at-said.ensures ∙ declared_there ns c.requires.shape p (Some at) met) in
     c.or_outside.ensures
     ∙ ap (λ out. cond (is_nothing c.targets_met-counts.result) (One (target_count None out)) c.targets_met-counts.result)
     (c.out_at.ensures ∙ out_of_met ns c.requires.shape p (Some at) met)
-    ∙ sym (targets (o.kinds p) (o.first.outs p) c.targets_met-counts.result (sym seen
-    ∙ ap (λ ks. counts_in (map own_count ks)) (sym (kinds_aimed (target_in (paths_in ns)) (option_copied c.declared_at.result) c.standing_at.result))
-    ∙ (λ i. counts_in (map own_count (kinds_by (said i) (c.standing_at.ensures (paths_in ns) i))))))
+    ∙ sym (targets (o.kinds p) (o.first.outs p) c.targets_met-counts.result (c.targets_met-counts.ensures
+    ∙ ap counts_in (sym (own_aimed (target_in (paths_in ns)) kinds) ∙ ap (map own_count) seen)))
     ∙ ap (λ q. counts_in (target_counts (o.kinds q) (o.first.outs q))) c.numbered-node.ensures.path
