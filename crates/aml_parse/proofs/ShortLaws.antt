@@ -1,7 +1,7 @@
 -- Terms of one or two bytes, as they are read and told, and no arguments.
-use Rattle.aml_parse.proofs.Common.{◌≡◌, ℕ, ◌<◌, ◌-◌, false, List, [], ◌∷◌, length, Option, Some, None, Ok, refl, ◌∙◌}
+use Rattle.aml_parse.proofs.Common.{◌≡◌, ℕ, ◌<◌, ◌-◌, false, List, [], ◌∷◌, Option, Some, None, Ok, refl, ◌∙◌}
 use Rattle.aml_parse.proofs.Common.{PathSet, Row, Role, Position, PartKind, Arities, Seg, Tree, no_trees, op, byte, Parts, no_parts, part_more, empty}
-use Rattle.aml_parse.proofs.Common.{byte_at, little_at, is_name_lead, names_declared, with_declared, row_of}
+use Rattle.aml_parse.proofs.Common.{byte_at, little_at, is_name_lead, with_declared, row_of}
 use Rattle.aml_parse.specs.Reading.{Reader, read_at, taken_at, parts_at, arguments_at, is_absent_target}
 use Rattle.aml_code.specs.Pieces.{Told, opcode, end_of_parts, part, tail, pieces}
 use Rattle.aml_parse.proofs.Opened.{opcode_read}

@@ -10,12 +10,6 @@ use crate::positions::{Lead, lead_of, row_of};
 use crate::tell::Here;
 use aml_code::{NoMemory, OpRow, PartKind, Piece, Role, Sink, byte_of};
 
-/// Whether a term that begins with this byte may be so short: a constant, a Local or an Arg, or the 00 of an absent
-/// target.
-fn may_be_short(lead: u8) -> bool {
-    matches!(lead, 0x00 | 0x01 | 0x0A | 0x60..=0x6E | 0xFF)
-}
-
 /// Whether nothing stands behind an opcode of this row, and it declares nothing.
 fn is_bare(row: &OpRow) -> bool
     ensures { IsTrue result → (row.now.parts.now ≡ []) × (row.now.tail ≡ None) × (row.now.role ≡ Role.Other) }
@@ -74,7 +68,8 @@ pub fn tell_short<'b, S: Sink>(
     ensures none { IfOk result (λ found. IfNone found (sink.new ≡ sink.old)) }
 {
     match bytes {
-        [lead, ..] if here.levels > 0 && may_be_short(*lead) => tell_shortly(
+        // A constant, a Local or an Arg, or the 00 of an absent target.
+        [0x00 | 0x01 | 0x0A | 0x60..=0x6E | 0xFF, ..] if here.levels > 0 => tell_shortly(
             here, end, sink, bytes,
         ),
         _ => Ok(None),

@@ -1,5 +1,5 @@
-//! Reading terms without making trees: each piece is told as it is read. What a term and its parts take is inlined, so
-//! that each level of terms has one frame.
+//! Reading terms without making trees: each piece is told as it is read. What an opcode's parts take is inlined, so that
+//! each level of terms has a frame or two.
 ghost use Rattle.std.specs.Prelude.{◌≡◌, ◌++◌, None, Some, Option, length, map, IfOk, IfErr, OnOk};
 ghost use Rattle.aml_names.specs.NameReading.{Fails};
 ghost use Rattle.aml_names.specs.declared.names.Name.{Name as AnyName};
@@ -300,8 +300,9 @@ impl<'a, N: Names> Parser<'a, N> {
         Ok((row.opcode == IF, rest))
     }
 
-    /// An opcode with a package length.
-    #[inline(always)]
+    /// An opcode with a package length. It has a frame of its own, so that the reader of terms, most of which have no
+    /// package, keeps fewer values.
+    #[inline(never)]
     #[cycle(telling)]
     #[tactic(auto, unfolding(crate::specs::Reading::packed_at))]
     fn tell_packed<'b, S: Sink>(
@@ -389,6 +390,7 @@ impl<'a, N: Names> Parser<'a, N> {
             (part_at (read_by N.arity N.scope self.now here.levels) kind end (N.paths self.now.names.now locals.old) bytes.now)) }
         ensures fits { N.fits self.now.names.now locals.new }
     {
+        // A result that is handed on whole goes through memory, so each is taken apart where it is read.
         match kind {
             PartKind::Term => self.tell_child(
                 here.at(Position::Argument),
@@ -407,18 +409,18 @@ impl<'a, N: Names> Parser<'a, N> {
             PartKind::Data => self.tell_child(here.at(Position::Data), end, locals, sink, bytes),
             PartKind::Name => {
                 *label = Some(bytes);
-                tell_name(self.alloc, end, sink, bytes)
+                Ok(tell_name(self.alloc, end, sink, bytes)?)
             }
             PartKind::ScopeName => {
                 *label = Some(bytes);
-                tell_any_name(self.alloc, end, sink, bytes)
+                Ok(tell_any_name(self.alloc, end, sink, bytes)?)
             }
-            PartKind::Byte => tell_byte(end, sink, bytes),
-            PartKind::Count => tell_count(end, sink, bytes),
-            PartKind::Word => tell_word(end, sink, bytes),
-            PartKind::Dword => tell_dword(end, sink, bytes),
-            PartKind::Qword => tell_qword(end, sink, bytes),
-            PartKind::Text => tell_text(end, sink, bytes),
+            PartKind::Byte => Ok(tell_byte(end, sink, bytes)?),
+            PartKind::Count => Ok(tell_count(end, sink, bytes)?),
+            PartKind::Word => Ok(tell_word(end, sink, bytes)?),
+            PartKind::Dword => Ok(tell_dword(end, sink, bytes)?),
+            PartKind::Qword => Ok(tell_qword(end, sink, bytes)?),
+            PartKind::Text => Ok(tell_text(end, sink, bytes)?),
         }
     }
 

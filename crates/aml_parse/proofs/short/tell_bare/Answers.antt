@@ -1,4 +1,4 @@
-use Rattle.aml_parse.proofs.Common.{rules, row_view, refl, sym, ap, length}
+use Rattle.aml_parse.proofs.Common.{row_view, sym, ap, length}
 use Rattle.aml_parse.proofs.ShortLaws.{told_bare}
 use Rattle.aml_parse.proofs.short.tell_bare.Goals as goal
 

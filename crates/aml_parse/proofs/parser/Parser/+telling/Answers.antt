@@ -388,37 +388,37 @@ tell_link-returns-clause-told g t c =
 
 -- ---- parts that hold no terms
 
-pub tell_part-returns-in-Byte-clause-told : goal.tell_part-returns-in-Byte-clause-told
-tell_part-returns-in-Byte-clause-told g t c =
-    rw c.in-Byte.is (plain_told g.S.Sink.grew _ _ c.args.here.level (g.N.Names.paths c.args.self.now.names.now c.args.locals.now) (label_at c.args.end c.args.label.now) _ (held byte (little_at 1 c.args.end c.args.bytes.now)) c.tell_byte.ensures.told)
+pub tell_part-returns-in_ok-tell_byte-in-Byte-clause-told : goal.tell_part-returns-in_ok-tell_byte-in-Byte-clause-told
+tell_part-returns-in_ok-tell_byte-in-Byte-clause-told g t c =
+    rw c.in-Byte.is (plain_told g.S.Sink.grew _ _ c.args.here.level (g.N.Names.paths c.args.self.now.names.now c.args.locals.now) (label_at c.args.end c.args.label.now) (Ok c.in_ok-tell_byte-in-Byte.field-0) (held byte (little_at 1 c.args.end c.args.bytes.now)) c.in_ok-tell_byte-in-Byte.ensures.told)
 
-pub tell_part-returns-in-Count-clause-told : goal.tell_part-returns-in-Count-clause-told
-tell_part-returns-in-Count-clause-told g t c =
-    rw c.in-Count.is (plain_told g.S.Sink.grew _ _ c.args.here.level (g.N.Names.paths c.args.self.now.names.now c.args.locals.now) (label_at c.args.end c.args.label.now) _ (count_part c.args.end c.args.bytes.now) c.tell_count.ensures.told)
+pub tell_part-returns-in_ok-tell_count-in-Count-clause-told : goal.tell_part-returns-in_ok-tell_count-in-Count-clause-told
+tell_part-returns-in_ok-tell_count-in-Count-clause-told g t c =
+    rw c.in-Count.is (plain_told g.S.Sink.grew _ _ c.args.here.level (g.N.Names.paths c.args.self.now.names.now c.args.locals.now) (label_at c.args.end c.args.label.now) (Ok c.in_ok-tell_count-in-Count.field-0) (count_part c.args.end c.args.bytes.now) c.in_ok-tell_count-in-Count.ensures.told)
 
-pub tell_part-returns-in-Word-clause-told : goal.tell_part-returns-in-Word-clause-told
-tell_part-returns-in-Word-clause-told g t c =
-    rw c.in-Word.is (plain_told g.S.Sink.grew _ _ c.args.here.level (g.N.Names.paths c.args.self.now.names.now c.args.locals.now) (label_at c.args.end c.args.label.now) _ (held word (little_at 2 c.args.end c.args.bytes.now)) c.tell_word.ensures.told)
+pub tell_part-returns-in_ok-tell_word-in-Word-clause-told : goal.tell_part-returns-in_ok-tell_word-in-Word-clause-told
+tell_part-returns-in_ok-tell_word-in-Word-clause-told g t c =
+    rw c.in-Word.is (plain_told g.S.Sink.grew _ _ c.args.here.level (g.N.Names.paths c.args.self.now.names.now c.args.locals.now) (label_at c.args.end c.args.label.now) (Ok c.in_ok-tell_word-in-Word.field-0) (held word (little_at 2 c.args.end c.args.bytes.now)) c.in_ok-tell_word-in-Word.ensures.told)
 
-pub tell_part-returns-in-Dword-clause-told : goal.tell_part-returns-in-Dword-clause-told
-tell_part-returns-in-Dword-clause-told g t c =
-    rw c.in-Dword.is (plain_told g.S.Sink.grew _ _ c.args.here.level (g.N.Names.paths c.args.self.now.names.now c.args.locals.now) (label_at c.args.end c.args.label.now) _ (held dword (little_at 4 c.args.end c.args.bytes.now)) c.tell_dword.ensures.told)
+pub tell_part-returns-in_ok-tell_dword-in-Dword-clause-told : goal.tell_part-returns-in_ok-tell_dword-in-Dword-clause-told
+tell_part-returns-in_ok-tell_dword-in-Dword-clause-told g t c =
+    rw c.in-Dword.is (plain_told g.S.Sink.grew _ _ c.args.here.level (g.N.Names.paths c.args.self.now.names.now c.args.locals.now) (label_at c.args.end c.args.label.now) (Ok c.in_ok-tell_dword-in-Dword.field-0) (held dword (little_at 4 c.args.end c.args.bytes.now)) c.in_ok-tell_dword-in-Dword.ensures.told)
 
-pub tell_part-returns-in-Qword-clause-told : goal.tell_part-returns-in-Qword-clause-told
-tell_part-returns-in-Qword-clause-told g t c =
-    rw c.in-Qword.is (plain_told g.S.Sink.grew _ _ c.args.here.level (g.N.Names.paths c.args.self.now.names.now c.args.locals.now) (label_at c.args.end c.args.label.now) _ (held qword (little_at 8 c.args.end c.args.bytes.now)) c.tell_qword.ensures.told)
+pub tell_part-returns-in_ok-tell_qword-in-Qword-clause-told : goal.tell_part-returns-in_ok-tell_qword-in-Qword-clause-told
+tell_part-returns-in_ok-tell_qword-in-Qword-clause-told g t c =
+    rw c.in-Qword.is (plain_told g.S.Sink.grew _ _ c.args.here.level (g.N.Names.paths c.args.self.now.names.now c.args.locals.now) (label_at c.args.end c.args.label.now) (Ok c.in_ok-tell_qword-in-Qword.field-0) (held qword (little_at 8 c.args.end c.args.bytes.now)) c.in_ok-tell_qword-in-Qword.ensures.told)
 
-pub tell_part-returns-in-Text-clause-told : goal.tell_part-returns-in-Text-clause-told
-tell_part-returns-in-Text-clause-told g t c =
-    rw c.in-Text.is (plain_told g.S.Sink.grew _ _ c.args.here.level (g.N.Names.paths c.args.self.now.names.now c.args.locals.now) (label_at c.args.end c.args.label.now) _ (text_part c.args.end c.args.bytes.now) c.tell_text.ensures.told)
+pub tell_part-returns-in_ok-tell_text-in-Text-clause-told : goal.tell_part-returns-in_ok-tell_text-in-Text-clause-told
+tell_part-returns-in_ok-tell_text-in-Text-clause-told g t c =
+    rw c.in-Text.is (plain_told g.S.Sink.grew _ _ c.args.here.level (g.N.Names.paths c.args.self.now.names.now c.args.locals.now) (label_at c.args.end c.args.label.now) (Ok c.in_ok-tell_text-in-Text.field-0) (text_part c.args.end c.args.bytes.now) c.in_ok-tell_text-in-Text.ensures.told)
 
-pub tell_part-returns-in-Name-clause-told : goal.tell_part-returns-in-Name-clause-told
-tell_part-returns-in-Name-clause-told g t c =
-    rw c.in-Name.is (label_told g.S.Sink.grew _ _ c.args.here.level (g.N.Names.paths c.args.self.now.names.now c.args.locals.now) (label_at c.args.end c.args.label.now) c.args.end c.args.bytes.now _ (held label (segmented_at c.args.end c.args.bytes.now)) c.tell_name.ensures.told)
+pub tell_part-returns-in_ok-tell_name-in-Name-clause-told : goal.tell_part-returns-in_ok-tell_name-in-Name-clause-told
+tell_part-returns-in_ok-tell_name-in-Name-clause-told g t c =
+    rw c.in-Name.is (label_told g.S.Sink.grew _ _ c.args.here.level (g.N.Names.paths c.args.self.now.names.now c.args.locals.now) (label_at c.args.end c.args.label.now) c.args.end c.args.bytes.now (Ok c.in_ok-tell_name-in-Name.field-0) (held label (segmented_at c.args.end c.args.bytes.now)) c.in_ok-tell_name-in-Name.ensures.told)
 
-pub tell_part-returns-in-ScopeName-clause-told : goal.tell_part-returns-in-ScopeName-clause-told
-tell_part-returns-in-ScopeName-clause-told g t c =
-    rw c.in-ScopeName.is (label_told g.S.Sink.grew _ _ c.args.here.level (g.N.Names.paths c.args.self.now.names.now c.args.locals.now) (label_at c.args.end c.args.label.now) c.args.end c.args.bytes.now _ (held label (name_at c.args.end c.args.bytes.now)) c.tell_any_name.ensures.told)
+pub tell_part-returns-in_ok-tell_any_name-in-ScopeName-clause-told : goal.tell_part-returns-in_ok-tell_any_name-in-ScopeName-clause-told
+tell_part-returns-in_ok-tell_any_name-in-ScopeName-clause-told g t c =
+    rw c.in-ScopeName.is (label_told g.S.Sink.grew _ _ c.args.here.level (g.N.Names.paths c.args.self.now.names.now c.args.locals.now) (label_at c.args.end c.args.label.now) c.args.end c.args.bytes.now (Ok c.in_ok-tell_any_name-in-ScopeName.field-0) (held label (name_at c.args.end c.args.bytes.now)) c.in_ok-tell_any_name-in-ScopeName.ensures.told)
 
 -- ---- tails
 
