@@ -100,6 +100,19 @@ fn position_after(position: Position, is_if: bool) -> Position
     }
 }
 
+/// Where a part of this kind stands, if it is a term.
+fn child_position(kind: PartKind) -> Position
+    ensures term { kind ≡ PartKind.Term → result ≡ Position.Argument }
+    ensures target { kind ≡ PartKind.Target → result ≡ Position.Target }
+    ensures data { kind ≡ PartKind.Data → result ≡ Position.Data }
+{
+    match kind {
+        PartKind::Target => Position::Target,
+        PartKind::Data => Position::Data,
+        _ => Position::Argument,
+    }
+}
+
 /// Keeps the segment of an element of a field list, if it is a named unit.
 fn keep_unit(field: &Field, units: &mut Vec<Seg>) -> Result<(), NoMemory>
     ensures { OnOk result (map plain_name units.new.items
@@ -392,21 +405,13 @@ impl<'a, N: Names> Parser<'a, N> {
     {
         // A result that is handed on whole goes through memory, so each is taken apart where it is read.
         match kind {
-            PartKind::Term => self.tell_child(
-                here.at(Position::Argument),
+            PartKind::Term | PartKind::Target | PartKind::Data => self.tell_child(
+                here.at(child_position(kind)),
                 end,
                 locals,
                 sink,
                 bytes,
             ),
-            PartKind::Target => self.tell_child(
-                here.at(Position::Target),
-                end,
-                locals,
-                sink,
-                bytes,
-            ),
-            PartKind::Data => self.tell_child(here.at(Position::Data), end, locals, sink, bytes),
             PartKind::Name => {
                 *label = Some(bytes);
                 Ok(tell_name(self.alloc, end, sink, bytes)?)
