@@ -106,17 +106,18 @@ module _ {W : Type 0} (f : W → Option (List ℕ)) where
   unfolding Prints
   prints_failed s xs e = subst (λ b. PrintsBy b b f s s xs) (sym e) (Sends-nil f s)
 
-  -- the text waits
-  pub prints_added : (s t : Out W) (xs : List ℕ) → s.failed ≡ false → t.failed ≡ false
+  by_added : (b : Bool) (s t : Out W) (xs : List ℕ) → Sends f s t [] → waiting t ≡ waiting s ++ xs → PrintsBy b b f s t xs
+  by_added false s t xs sent p = record { bytes = []; sent = sent; whole = sym p }
+  by_added true s t xs sent p = sent
+
+  -- the text waits, or after a fault it lies where nothing waits any more
+  pub prints_added : (s t : Out W) (xs : List ℕ) → t.failed ≡ s.failed
       → t.inner.ghost_name ≡ s.inner.ghost_name
       → f t.inner.now ≡ f s.inner.now → t.wrote ≡ s.wrote → waiting t ≡ waiting s ++ xs
       → Prints f s t xs
   unfolding Prints
-  prints_added s t xs d e n i w p = rw (d, e) (record {
-    bytes = [];
-    sent = record { same = n; grew = rw i (Appends-nil (f s.inner.now)); counted = omega (arith, w) };
-    whole = sym p;
-  })
+  prints_added s t xs e n i w p = subst (λ b. PrintsBy s.failed b f s t xs) (sym e) (by_added s.failed s t xs
+      (record { same = n; grew = rw i (Appends-nil (f s.inner.now)); counted = omega (arith, w) }) p)
 
   by_sent : (b : Bool) (s t : Out W) (xs all : List ℕ) (n : ℕ) → waiting s ++ xs ≡ all
       → Sends f s t (take n all)

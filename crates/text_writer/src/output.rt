@@ -14,7 +14,8 @@ pub struct WriteFault {
     pub wrote: u64,
 }
 
-/// A writer, the bytes that wait for it, and how many bytes it took. After a fault nothing more is written.
+/// A writer, the bytes that wait for it, and how many bytes it took. After a fault nothing more is written: what is put
+/// then stays in the buffer, so that only who finds this full has to ask for a fault.
 #[derive(Drop)]
 pub struct Out<'w, W> {
     inner: &'w mut W,
@@ -90,9 +91,6 @@ impl<'w, W: Write> Out<'w, W> {
     pub fn put(&mut self, bytes: &[u8])
         ensures { Prints W.contents self.old self.new bytes.now }
     {
-        if self.failed {
-            return;
-        }
         if bytes.len() <= self.room() {
             self.len = place(self.buffer, self.len, bytes);
         } else {
@@ -113,9 +111,6 @@ impl<'w, W: Write> Out<'w, W> {
     pub(crate) fn put_two(&mut self, first: u8, second: u8)
         ensures { Prints W.contents self.old self.new (first ∷ second ∷ []) }
     {
-        if self.failed {
-            return;
-        }
         if 2 <= self.room() {
             self.len = place_two(self.buffer, self.len, first, second);
         } else {
@@ -129,9 +124,6 @@ impl<'w, W: Write> Out<'w, W> {
         requires { count ≤ 16 }
         ensures { Prints W.contents self.old self.new (take count bytes.now) }
     {
-        if self.failed {
-            return;
-        }
         if 16 <= self.room() {
             self.len = place_front(self.buffer, self.len, bytes, count);
         } else {
@@ -139,13 +131,15 @@ impl<'w, W: Write> Out<'w, W> {
         }
     }
 
-    /// Writes what waits, and then keeps these bytes, or writes them too where they are many.
+    /// Writes what waits, and then keeps these bytes, or writes them too where they are many; after a fault nothing.
     #[cold]
     #[inline(never)]
     fn spill(&mut self, bytes: &[u8])
-        requires { self.old.failed ≡ false }
         ensures { Prints W.contents self.old self.new bytes.now }
     {
+        if self.failed {
+            return;
+        }
         self.write_pending();
         if self.failed {
             return;
