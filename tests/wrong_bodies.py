@@ -147,12 +147,14 @@ def read_wrong_body(name, text, folder):
 
 def wrong_bodies(folder, outside):
     """The wrong bodies of a crate: those that the gate tries, or the others."""
-    texts = {}
+    texts = []
     for file in sorted(glob.glob(f"{folder}/wrong-bodies.edits" if outside else f"{folder}/must-fail/*.edit")):
         text = read(file)
         parts = re.split(r"^edit: ", text, flags=re.M)[1:] if outside else [f"{os.path.basename(file)[:-5]}\n{text}"]
-        texts.update(part.split("\n", 1) for part in parts)
-    return [read_wrong_body(name.strip(), text, folder) for name, text in texts.items()]
+        texts += (part.split("\n", 1) for part in parts)
+    if len(dict(texts)) < len(texts):
+        sys.exit(f"{folder}: two wrong bodies have one name")
+    return [read_wrong_body(name.strip(), text, folder) for name, text in texts]
 
 
 def sources_in(folder):
