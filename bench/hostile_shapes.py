@@ -414,7 +414,7 @@ SHAPES = (
         lambda count, depth: LEAF_NAME
         + around(depth, lambda code: device(block(LEAF_NAME) + code, NEAR), main_method(LEAF * count)), any_run=True,
     ),
-    one("maybe-aliases", 16_000, "Aliases", maybe_aliases, any_run=True, is_square=True),
+    one("maybe-aliases", 12_000, "Aliases", maybe_aliases, any_run=True, is_square=True),
     one(
         "maybe-aliases-deep", 1_000, "Aliases", lambda count: within(10_000, maybe_aliases(count)), any_run=True,
         is_square=True,
