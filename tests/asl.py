@@ -18,14 +18,14 @@ import re
 import shutil
 import subprocess
 
-from tally import DEMO, PROGRAM, TOP, Tally, asked, run_script, timed, written
+from tally import DEMO, PROGRAM, Tally, asked, parts_in, run_script, tables_in, timed, written
 import splice
 from acpidis_tools.asl.blocks import Block, Reader
 from acpidis_tools.asl.names import said_by
 from acpidis_tools.listing import NoListing
 from dumps import dumps_of
 from folders import read_folder
-from hostile import head_of, mutated, text_of
+from hostile import head_of, mutated, repeated, text_of
 from made_aml import SETS, VERSIONS, device, method, scope, table, tables
 from made_plain import PlainMaker
 from made_sets import sealed
@@ -119,25 +119,24 @@ SCOPED = "FOO_ (One)\n  }\n  Scope (FOO_) {", "FOO_ as a call, where nothing say
 WIDE = "0x1122334455667788"
 WHOLE = text_of(ROWS, ["Method (FOO_, 1, NotSerialized, 0) {", "  Noop", "}"], "a.dat")
 BLOCK = WHOLE[WHOLE.index("DefinitionBlock") :]
-# What is no line of a listing.
-NO_LINES = (
-    "noop", "", "Noop Noop", "Add (One One, )", "{", "Add (One, One, ", "Add One, One)", 'Store ("a, Local0)',
-    "Store (One, Local0) /* a */", "(" * 50_000, "LNot (" * 100_000,
-)  # fmt: skip
-DEEP_SCOPE = ".".join(["Scope (AAAA"] + ["AAAA"] * 70) + ") {\n    }"
+BODIES, UNITS, CHANGES, UNSPLICED = ([row.split("  # ") for row in rows] for rows in tables_in("unspelled.txt"))
+
+
+def changed(change):
+    """The listing with a change of that table."""
+    old, _, new = re.sub(r"<(.*?)\*(\d+)>", repeated, change).partition(" => ")
+    return WHOLE.replace(old, new.replace("\\n", "\n    "))
+
+
 # Texts that are no listings, with what is said of them.
 MISREAD = [
     ("", "it is empty"),
     ("\n", "it doesn't begin as a listing of acpidis does, with a line Table or Root"),
     (WHOLE[:-1], "it is cut in line 11"),
     (WHOLE[:-2], "it is cut behind line 10"),
-    *((WHOLE.replace("Noop", line), "line 9 isn't one of a listing of acpidis") for line in NO_LINES),
-    (WHOLE.replace("Noop", "\u00e9"), "line 9 has a byte that isn't ASCII"),
-    (WHOLE.replace(", 1, NotSerialized", ", 9, NotSerialized"), "line 8 isn't one of a listing of acpidis"),
-    (WHOLE.replace('Block ("a.dat")', 'Block ("b.dat")'), "line 7 isn't one of a listing of acpidis"),
     (WHOLE + BLOCK, "line 12 isn't one of a listing of acpidis"),
     (WHOLE + "more\n", "line 12 isn't one of a listing of acpidis"),
-    (WHOLE.replace("Noop", DEEP_SCOPE), "line 9: a scope of more than 64 segments is too deep for this script"),
+    *((changed(change), what) for change, what in CHANGES),
 ]
 
 
@@ -147,10 +146,8 @@ def text_with(body, revision=2):
 
 
 def check_told(checks):
-    _, bodies, _, units = (TOP / "tests/unspelled.txt").read_text().split("\n\n")
-    rows = [(*line.replace("\\n", "\n    ").split("  # "), 9, 2) for line in bodies.splitlines()]
-    for unit, what in (line.split("  # ") for line in units.splitlines()):
-        rows.append((f"Field (REG0, 0x01) {{\n      {unit}\n    }}", what, 10, 2))
+    rows = [(body.replace("\\n", "\n    "), what, 9, 2) for body, what in BODIES]
+    rows += [(f"Field (REG0, 0x01) {{\n      {unit}\n    }}", what, 10, 2) for unit, what in UNITS]
     rows += [(*SCOPED, 9, 2), (CALLED, BY_PATH, 9, 2)]
     wide = f"{WIDE} in a table of revision 1, whose integers have 4 bytes"
     for body, what, number, revision in [*rows, (f"Store ({WIDE}, Local0)", wide, 9, 1)]:
@@ -331,19 +328,6 @@ def body_of(dump, path):
     return splice.code_of(dump, "dump")[place.named : place.end]
 
 
-# What splice.py refuses, of files of check_splice and a path.
-UNSPLICED = [
-    ("old new NONE", "'splice/old' doesn't declare \\NONE"),
-    ("old new TWIC", "'splice/old' declares \\TWIC 2 times"),
-    ("old new DEV0", "'splice/new' doesn't declare \\DEV0"),
-    ("old other NAM1", "\\NAM1 is a Name in 'splice/old', and a Device in 'splice/other'"),
-    ("cut new NAM1", "'splice/cut' is no table"),
-    ("old short NAM1", "'splice/short' is no table"),
-    ("broken new NAM1", "'splice/broken' can't be read behind byte 42"),
-    ("old far DEV0.NAM0", "\\DEV0.NAM0 stands in the scope \\DEV0 of 'splice/old', and in \\ of 'splice/far'"),
-]
-
-
 def check_splice(checks):
     """What is refused, what else may be put in, revisions and archives."""
     declared, twice = device(b"DEV0", b"\x08NAM0\x01", method(b"MET0", 0)), method(b"TWIC", 0) * 2
@@ -486,9 +470,8 @@ def check_show(checks):
     """What is declared at a path, or at paths that end so."""
     place = written(checks.room / "show", VERSIONS["first"])
     text = checks.text("show.text", listed(place))
-    shown = re.findall(r"^== (\S+)\n((?:(?!==).*\n)+)", (TOP / "tests/shown.txt").read_text(), re.M)
-    for path, wanted in shown:
-        checks.says(f"show {path}", [SHOW, text, path], 0, "", wanted)
+    for path, wanted in parts_in("shown.txt")[1:]:
+        checks.says(f"show {path}", [SHOW, text, path], 0, "", wanted + "\n")
     heads = checks.run(SHOW, text, "_hid").stdout.count("Name (_HID, ")
     checks.is_same("each _HID", heads, text.read_text().count("Name (_HID, "))
     whole = checks.run(SHOW, text, "EC0").stdout

@@ -10,13 +10,14 @@ places of their units. Where iasl isn't installed that part is left out, and sai
 reading. The last line is 'N passed, N failed'.
 """
 
+import ast
 import difflib
 import pathlib
 import re
 import shutil
 import tempfile
 
-from tally import DEMO, TOP, Tally, asked, written
+from tally import DEMO, Tally, asked, tables_in, written
 from acpidis_tools.decoding import Decoder, bits_text, flag_words
 from dumps import order_of
 from folders import read_folder
@@ -31,11 +32,8 @@ from acpidis_tools.standard import eisa_id, eisa_number, space_name, status_word
 EISA = re.compile("[A-Z]{3}[0-9A-F]{4}")
 LONG_NAME = "5C 5F 53 42 5F 00"  # \_SB_ and its NUL
 
-# Rows of descriptors, bytes that are no template, and what is said of the lines of the set below.
-ROWS, NO_TEMPLATES, WANTED = (
-    [line for line in part.splitlines() if not line.startswith("#")]
-    for part in (TOP / "tests/resources.txt").read_text().split("\n\n")
-)
+# Rows of descriptors, bytes that are no template, what is said of lines, of predefined objects, and of numbers alone.
+ROWS, NO_TEMPLATES, WANTED, OBJECTS, WORDS = tables_in("resources.txt")
 
 
 def data_of(text: str) -> bytes:
@@ -59,22 +57,18 @@ def check_rows(checks: Tally) -> None:
         checks.is_same(f"no template: {code}", descriptors(data_of(code)), None)
 
 
+def uuid_of(code: str) -> str:
+    return uuid_text(data_of(code))
+
+
+FUNCTIONS = {it.__name__: it for it in (bits_text, eisa_id, eisa_number, space_name, status_words, uuid_of)}
+
+
 def check_words(checks: Tally) -> None:
     """Identifiers, spaces, status, places: by the standard's own examples and tables."""
-    ids = [eisa_id(it) for it in ("0x080AD041", "0xD041", "0x00000000", "0xFFFFFFFF")]
-    checks.is_same("EisaId", ids, ["PNP0A08", "PNP0000", "", ""])
-    checks.is_same("its number", [eisa_number("PNP0A08"), eisa_number("ACPI0007")], [0x080AD041, None])
-    host = data_of("5B 4D DB 33 F7 1F 1C 40 96 57 74 41 C0 3D D7 66")
-    texts = [uuid_text(host), uuid_text(bytes(16)), uuid_text(host[:15])]
-    checks.is_same("ToUUID", texts, ["33db4d5b-1ff7-401c-9657-7441c03dd766", "", ""])
-    spaces = ["SystemMemory", "SystemIO", "PlatformRtMechanism", "0x0C", "FFixedHW", "vendor's 0x80"]
-    checks.is_same("spaces", [space_name(number) for number in (0, 1, 11, 12, 0x7F, 0x80)], spaces)
-    wanted = ["present, enabled, not shown, functioning", "not present", "not present, not enabled, not shown, functioning"]
-    checks.is_same("status", [status_words(number) for number in (0x0B, 0, 8)], wanted)
-    wanted = ["byte 0x00", "byte 0x02, bit 1", "byte 0x02, bits 1 to 2", "bytes 0x04 to 0x07"]
-    wanted.append("byte 0x00, bit 7 to byte 0x01, bit 0")
-    got = [bits_text(*it) for it in ((0, 8), (17, 1), (17, 2), (32, 32), (7, 2))]
-    checks.is_same("places", got, wanted)
+    for name, *values in (row.split(" | ") for row in WORDS):
+        *words, wanted = map(ast.literal_eval, values)
+        checks.is_same(f"{name} of {words}", FUNCTIONS[name](*words), wanted)
 
 
 def decoded(folder: pathlib.Path, options: Options = Options()) -> tuple:
@@ -89,19 +83,8 @@ def decoded(folder: pathlib.Path, options: Options = Options()) -> tuple:
 def check_objects(checks: Tally, room: pathlib.Path) -> None:
     """Predefined objects in words, and values of another form without any."""
     listing, decoder = decoded(written(room / "objects", tables(*SETS["objects"])))
-    found = [(line.words[1], row) for line in listing.lines for row in decoder.rows(line)]
-    wanted = [("PR00", route) for route in (
-        "device 0x01 INTA to LNKA", "device 0x1F INTB to interrupt 19", "device 0x02 function 1 INTC to LNKB 3",
-    )]
-    guid, event = "05901221-d566-11d1-b2f0-00a0c9062910", "abbc0f6b-8ea1-11d1-00a0-c90629100000"
-    wanted += [
-        ("_DSD", "UUID daffd814-6eba-4d8c-8a91-bc9bbf4aa301 device properties"), ("_DSD", "label: \"fan\""),
-        ("_DSD", "gpios: (^GPI0, 0x13, 0)"),
-        ("_PLD", "visible, panel back, upper center, horizontal rectangle, group 1 position 3"),
-        ("_UPC", "connectable, USB 3 type A"), ("_WDG", f"{guid} data WQAA"), ("_WDG", f"{guid} method WMBA"),
-        ("_WDG", f"{event} event 0xD0, 2 instances, expensive"),
-    ]  # fmt: skip
-    checks.is_same("predefined objects", found, wanted)
+    found = [f"{line.words[1]}: {row}" for line in listing.lines for row in decoder.rows(line)]
+    checks.is_same("predefined objects", found, OBJECTS)
 
 
 def check_notes(checks: Tally, folder: pathlib.Path) -> None:

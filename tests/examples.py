@@ -14,7 +14,7 @@ import re
 import shlex
 import subprocess
 
-from tally import TOP, Tally, asked, executable, on_full_disk, run_script, timed, written
+from tally import TOP, Tally, asked, executable, on_full_disk, parts_in, run_script, timed, written
 from made_aml import SETS, device, method, table, tables
 
 
@@ -29,7 +29,7 @@ class Tries(Tally):
 
     def fake(self, name, text):
         """A program in place of acpidis."""
-        return str(executable(self.room / name, f"#!/bin/sh\n{text}"))
+        return str(executable(self.room / name, f"#!/bin/sh\n{text}\n"))
 
     def run(self, script, *words, **variables):
         return run_script(script, *words, cwd=self.room, env={**os.environ, **variables})
@@ -56,12 +56,11 @@ def make_sets(tries):
 
 def try_rows(tries):
     """The rows of tests/examples.txt."""
-    for part in (TOP / "tests/examples.txt").read_text().split("\n== ")[1:]:
-        name, _, rest = part.partition("\n")
+    for name, rest in parts_in("examples.txt")[1:]:
         if name.startswith("fake "):
             tries.fake(name.removeprefix("fake "), rest)
             continue
-        command, *lines, ending = rest.strip("\n").split("\n")
+        command, *lines, ending = rest.split("\n")
         words = shlex.split(command)[1:]
         variables = {"ACPIDIS": str(tries.room / words.pop(0).partition("=")[2])} if "=" in words[0] else {}
         file = words.pop()[1:] if words[-1].startswith(">") else None

@@ -20,7 +20,7 @@ import sqlite3
 import subprocess
 import sys
 
-from tally import TOP, Tally, asked, first_difference, module_of, on_full_disk, run_script, written
+from tally import TOP, Tally, asked, first_difference, module_of, on_full_disk, parts_in, run_script, written
 from acpidis_tools import command
 from loading import path_text
 from made_aml import SETS, VERSIONS, table, tables
@@ -210,9 +210,8 @@ def make_more(room: pathlib.Path) -> None:
 
 def check_questions(checks: Tally, room: pathlib.Path) -> None:
     """The questions of tests/facts.txt, each with a row of its answer a line."""
-    for part in (TOP / "tests/facts.txt").read_text().split("\n== ")[1:]:
-        head, *lines = part.strip("\n").split("\n")
-        name, _, file = head.rpartition(": ")
+    for head, rows in parts_in("facts.txt")[1:]:
+        (name, _, file), lines = head.rpartition(": "), rows.split("\n")
         wanted = [ast.literal_eval(line) for line in lines if line.startswith("(")]
         found = rows_of(room / file, " ".join(line for line in lines if not line.startswith("(")))
         checks.is_same(name, found, wanted)

@@ -15,8 +15,9 @@ import random
 import re
 import resource
 import subprocess
+from collections.abc import Iterator
 
-from tally import TOP, Tally, asked, executable, module_of, on_full_disk, run_script, timed, written
+from tally import TOP, Tally, asked, executable, module_of, on_full_disk, parts_in, run_script, timed, written
 from acpidis_tools.errors import read_errors
 from acpidis_tools.listing import NoListing
 from acpidis_tools.page.markup import page
@@ -26,7 +27,6 @@ from telling import HOSTILE_FILES, RUNS_FILES
 
 facts_script = module_of("facts_script", TOP / "examples/facts.py")
 SECONDS, MOST_MEMORY = 2, 1_000_000_000
-MANY, LONG = 6_000, 16_000
 
 
 def head_of(file: str, signature: str, revision: int = 2) -> str:
@@ -52,46 +52,25 @@ def deep(segments: int) -> str:
     return "\\" + ".".join(f"S{number:03d}" for number in range(segments))
 
 
-NINES = "9" * 5_000
-SEGMENTS = ".".join(["AAAA"] * LONG)
-UNKNOWN = [f"X{number % 1000:03d}" for number in range(MANY)]
+def repeated(form: re.Match) -> str:
+    """So many of a text, each with its number."""
+    return "".join(form[1].replace("###", f"{number % 1000:03d}") for number in range(int(form[2]))).replace("|", "\n")
+
+
+def written_down() -> Iterator[tuple[str, str]]:
+    """The texts of tests/hostile.txt by what they are."""
+    for what, lines in parts_in("hostile.txt")[1:]:
+        lines = re.sub(r"<(.*?)\*(\d+)>", repeated, lines).split("\n")
+        rows = [line for line in lines if line.startswith("\\")]
+        yield what, text_of(rows, lines[len(rows) :])
+
+
 TEXTS = {
-    "a number of 28 digits": body(f"Return ({'9' * 28}x)"),
-    "a number of 5,000 digits": body(f"Return (0x{NINES})", f"Return ({NINES})"),
-    "a unit of 5,000 digits": text_of(["\\FLD0 Field"], ["Field (REG0, 0x01) {", f"  FLD0, {NINES}", "}"]),
-    "a Name of nothing": text_of(["\\AAAA Name"], ["Name ()"]),
-    "an External of nothing": text_of(["\\AAAA Name"], ["External ()", "Name (AAAA, One)"]),
-    "an Alias of nothing": text_of(["\\AAAA Alias \\BBBB"], ["Alias ()"]),
-    "a Field of nothing": text_of(["\\AAAA Field"], ["Field () {", "  AAAA, 1", "}"]),
-    "a region of nothing": text_of(["\\AAAA Region"], ["OperationRegion (AAAA)"]),
-    "a region of too much": text_of(["\\AAAA Region"], ["OperationRegion (AAAA, 0x00, 0xFFFFFFFFFFFFFFFF, 0xFFFFFFFFFFFFFFFF)"]),
-    "a Method of nothing": text_of(["\\AAAA Method 0"], ["Method () {", "}"]),
-    "a Method without flags": text_of(["\\AAAA Method 0"], ["Method (AAAA) {", "}"]),
-    "a Raw of half a byte": body("Raw {A4, 5}"),
-    "a Raw of a name": body("Raw (AAAA)"),
-    "a path of 16,000 segments": text_of([f"\\{SEGMENTS} Name"], [f"Name (\\{SEGMENTS}, One)"]),
-    "blocks that stay open": body(*["If (One) {"] * 3),
+    **dict(written_down()),
     "200 scopes in each other": text_of([f"{deep(number + 1)} Device" for number in range(200)], [
         *("  " * number + f"Device (S{number:03d}) {{" for number in range(200)),
         *("  " * number + "}" for number in range(199, -1, -1)),
     ]),
-    "thousands of calls in each other": body("Return (" + "AAAA (" * MANY + "One" + ")" * MANY + ")"),
-    "thousands of brackets": body("Return " + "(" * MANY, "(" * MANY + ")" * MANY),
-    "thousands of braces": body("Return (Package (One) " + "{Package (One) " * MANY + "}" * MANY + ")"),
-    "unknown names below 31 segments": body(*UNKNOWN, path=deep(31)),
-    "unknown names beside names of the body's own": body("Name (AAAA, One)", *UNKNOWN, path=deep(31)),
-    "names of the root below 31 segments": body(
-        "Name (AAAA, One)", *["BBBB"] * MANY, path=deep(31), rows=("\\BBBB Name",)
-    ).replace('DefinitionBlock ("d") {\n', 'DefinitionBlock ("d") {\n  Name (\\BBBB, One)\n'),
-    "thousands of fields of one buffer": body(
-        "Name (BUF0, Buffer (0x02) {79, 00})",
-        *(f"CreateField (BUF0, Zero, 0xFFFFFFFF, F{number % 1000:03d})" for number in range(MANY)),
-    ),
-    "thousands of descriptors": body(
-        f"Name (BUF0, Buffer (0x{MANY + 2:X}) {{{'38, ' * MANY}79, 00}})", "CreateField (BUF0, Zero, 0xFFFFFFFF, FLD0)",
-    ),
-    "a row that is long": text_of(["\\AAAA Name", "\\" + "A" * 100_000], ["Name (AAAA, One)"]),
-    "a name in quotes": body('Return ("' + "\\x22" * MANY + '")'),
 }
 # What is for the scripts too that look for names alone.
 LOOKED_FOR = re.compile("names|scopes|calls|brackets|segments|Raw|digits")

@@ -16,13 +16,14 @@ import itertools
 import json
 import os
 import pathlib
+import re
 import shutil
 import subprocess
 import sys
 import tempfile
 import time
 
-from tally import TOP, Tally, asked, run_script, written
+from tally import TOP, Tally, asked, parts_in, run_script, written
 from running import Options, run_folder
 from telling import HOSTILE_FILES
 
@@ -34,7 +35,6 @@ OPENINGS = 3
 # The ends of the pipes in chromium are by its own rule these two.
 ITS_INPUT, ITS_OUTPUT = 3, 4
 KEYS = {"/": 191, "Enter": 13, "Escape": 27, "ArrowDown": 40, "ArrowLeft": 37, "ArrowRight": 39, "ArrowUp": 38, "Tab": 9}
-NARROW = 400
 MOST_JUMPS = 60
 
 
@@ -168,203 +168,62 @@ class Browser:
         self.child.wait(LONGEST_WAIT)
 
 
-IS_SEEN = "(({ top, bottom }) => top >= 0 && bottom <= innerHeight)" \
-    "(document.getElementById(%s).getBoundingClientRect())"
-# The method that is used most often, but not too often to be shown whole.
-USED = "[...document.querySelectorAll('.block summary > .note')].filter((note) => parseInt(note.textContent) < 9)" \
-    ".sort((one, other) => parseInt(other.textContent) - parseInt(one.textContent))[0]"
-# The last name that leads to a path below the root.
-NAME = "[...document.querySelectorAll('.block p > a:not(.note)')].filter((link) => link.hash.length > 2).at(-1)"
+# What is done with a page, as that text says
+(_, HELPERS), *PARTS = parts_in("page_browser.txt")
 
 
-FOUND = "(found.querySelector('a') || { hash: '' }).hash.slice(1)"
-
-
-def seen(path: object) -> str:
-    return IS_SEEN % json.dumps(path)
+def take_steps(browser: Browser, kind: str, picture: pathlib.Path | None, checks: Tally) -> None:
+    """Does what the rows say of pages of a kind, and looks whether all holds that they tell."""
+    as_shown = lambda form: str(browser.value(form[1]))
+    browser.value(HELPERS)
+    rows = [row for head, lines in PARTS if head.startswith(f"{kind}: ") for row in lines.splitlines()]
+    for row in (row for row in rows if row and not row.startswith("//")):
+        word, _, rest = row.partition(" ")
+        if word in ("is", "comes"):
+            what, _, condition = rest.partition(": ")
+            holds = (browser.value if word == "is" else browser.until)(f"!!({condition})")
+            checks.is_so(re.sub(r"\{(.*?)\}", as_shown, what), holds)
+        elif word == "do":
+            browser.value(f"(async () => {{ {rest} }})()")
+        elif word in ("press", "click"):
+            getattr(browser, word)(rest)
+        elif word == "picture":
+            browser.picture(picture)
+        elif word == "places":
+            look_at_places(browser, checks)
+        else:
+            {"type": browser.type, "jump": browser.jump, "width": browser.width}[word](browser.value(rest))
+    complaints = [*browser.events_of("Log.entryAdded"), *browser.events_of("Runtime.exceptionThrown")]
+    checks.is_so(f"the browser's log is empty, not {complaints}", not complaints)
 
 
 def look(browser: Browser, url: str, picture: pathlib.Path, checks: Tally) -> None:
     seconds = min(browser.open(url) for _ in range(OPENINGS))
     print(f"opened in {seconds:.2f} s")
     checks.is_so(f"it opens in {MOST_SECONDS_TO_OPEN} s", seconds <= MOST_SECONDS_TO_OPEN)
-    wanted = str(browser.value("[...document.querySelectorAll('#tree p > a:first-child')].at(-1).hash.slice(1)"))
-    look_for(browser, wanted, checks)
-    follow(browser, wanted, picture, checks)
-    look_for_forms(browser, checks)
-    look_at_places(browser, checks)
-    look_at_text(browser, checks)
-    look_by_keys(browser, checks)
-    look_narrow(browser, checks)
+    take_steps(browser, "page", picture, checks)
     asked = [event["request"]["url"] for event in browser.events_of("Network.requestWillBeSent")]
     checks.is_so(f"it asks for itself alone, not {asked}", {one.partition("#")[0] for one in asked} == {url})
     checks.is_so("it keeps no cookie", not browser.call("Network.getCookies")["cookies"])
-    check_log(browser, checks)
-
-
-def check_log(browser: Browser, checks: Tally) -> None:
-    complaints = [*browser.events_of("Log.entryAdded"), *browser.events_of("Runtime.exceptionThrown")]
-    checks.is_so(f"the browser's log is empty, not {complaints}", not complaints)
-
-
-def look_for(browser: Browser, wanted: str, checks: Tally) -> None:
-    browser.press("/")
-    checks.is_so("/ leads to the field", browser.value("document.activeElement.id") == "find")
-    browser.type(wanted.lower())
-    checks.is_so("the path is found", browser.until(f"{FOUND} === {json.dumps(wanted)}"))
-    browser.press("Enter")
-    checks.is_so("Enter leads to it", browser.value("decodeURIComponent(location.hash)") == f"#{wanted}")
-    checks.is_so("it is seen", browser.until(seen(wanted)))
-    browser.press("Escape")
-    checks.is_so("Escape leaves the field", browser.value("document.activeElement.id + find.value") == "")
-
-
-def follow(browser: Browser, wanted: str, picture: pathlib.Path, checks: Tally) -> None:
-    """A name, what is folded, and the uses of a declaration."""
-    # More names are there once more is in sight, so the element is kept.
-    browser.value(f"globalThis.chosen = {NAME}; 1")
-    aim = browser.value("chosen.hash.slice(1)")
-    browser.click("chosen")
-    checks.is_so("a name is followed", browser.value("decodeURIComponent(location.hash)") == f"#{aim}")
-    checks.is_so("what it means is seen", browser.until(seen(aim)))
-    checks.is_so("the tree shows where that is", browser.until("!!tree.querySelector('[aria-current]')"))
-    browser.click("document.querySelector('#where button')")
-    checks.is_so("methods are folded", browser.value("!!document.querySelector('.block details:not([open])')"))
-    browser.jump(wanted)
-    checks.is_so("what hides a path opens", browser.until(seen(wanted)))
-    browser.click("document.querySelectorAll('#where button')[1]")
-    browser.value(f"globalThis.chosen = {USED}; 1")
-    browser.jump(str(browser.value("chosen.parentNode.querySelector('dfn').id")))
-    browser.click("chosen")
-    checks.is_so("uses are shown", browser.until("document.querySelectorAll('#pop code').length > 0"))
-    browser.value("scrollBy(0, 190)")
-    browser.picture(picture)
-    browser.press("Escape")
-    checks.is_so("Escape closes them", browser.value("!document.querySelector('#pop')"))
-
-
-def look_for_forms(browser: Browser, checks: Tally) -> None:
-    """A path in the forms that people paste, an identifier, a kind: what is meant comes first."""
-    path, kind, text = browser.value(
-        "(() => { const row = [...document.querySelectorAll('#tree .id')].at(-1).parentNode;"
-        " const path = row.querySelector('a').hash.slice(1);"
-        " return [path, row.childNodes[1].data.trim(), row.querySelector('.id').textContent]; })()"
-    )
-    bare = ".".join(segment.rstrip("_") for segment in path[1:].split("."))
-    tails = path.rpartition(".")[2].rstrip("_").lower()
-    browser.value("(() => { const nav = tree.closest('nav'); nav.style.maxHeight = '80px'; nav.scrollTop = 300; })(); find.value = 'a'; showFound()")
-    checks.is_so("what is found is shown from its beginning", browser.until("!found.hidden && tree.closest('nav').scrollTop === 0"))
-    browser.value("tree.closest('nav').style.maxHeight = ''; find.value = ''; showFound()")
-    for form in (path, f"\\{bare}", bare, bare.lower(), f"{bare.lower()} {kind.lower()}"):
-        browser.value(f"find.value = {json.dumps(form)}; showFound()")
-        checks.is_so(f"{form} finds {path} first", browser.until(f"{FOUND} === {json.dumps(path)}"))
-    for form in (tails, text.split()[0].lower()):
-        browser.value(f"find.value = {json.dumps(form)}; showFound()")
-        is_first = f"{{0}}.textContent.toUpperCase().includes({json.dumps(form.upper())})".format("found.querySelectorAll('p')[1]")
-        is_there = f"[...found.querySelectorAll('a')].some((link) => link.hash.slice(1) === {json.dumps(path)})"
-        checks.is_so(f"{form} finds {path}", browser.until(f"find.value && {is_there} && {is_first}"))
-    browser.value(f"document.querySelector('.kinds button[value={kind}]').click()")
-    has_kind = f"[...found.querySelectorAll('p:not(:first-child)')].every((row) => row.textContent.includes(' {kind}'))"
-    checks.is_so("a kind on top filters", browser.until(f"!found.hidden && found.querySelectorAll('a').length > 0 && {has_kind}"))
-    browser.press("Escape")
 
 
 def look_at_places(browser: Browser, checks: Tally) -> None:
     """The bar tells the path and the file after each jump."""
-    paths = browser.value("[...document.querySelectorAll('#tree a:first-child')].map((link) => link.hash.slice(1))")
-    is_there = "!!document.querySelector('.block dfn[id=' + CSS.escape(%s) + ']')"
-    declared = [path for path in paths if browser.value(is_there % json.dumps(path))]
-    wrong = []
+    declared, wrong = browser.value("declared()"), []
     for path in declared[:: len(declared) // MOST_JUMPS + 1]:
         browser.jump(path)
-        text = json.dumps(path)
-        if not browser.until(f"here.textContent === {text} && file.textContent === fileOf(lineOf(byId({text})))"):
+        if not browser.until(f"tells({json.dumps(path)})"):
             wrong.append((path, browser.value("[file.textContent, here.textContent]")))
     checks.is_so(f"the bar tells the place of each of {len(declared)} paths, not {wrong[:5]}", declared and not wrong)
 
 
-def look_at_text(browser: Browser, checks: Tally) -> None:
-    """What is said of numbers is text, raw notes are in one piece, and no line of a table has a gap above it."""
-    text = "document.querySelector('main').textContent"
-    checks.is_so("identifiers are text", browser.value(f"/[^\"](PNP|ACPI)[0-9A-F]{{4}}/.test({text})"))
-    printed = "[...document.querySelectorAll('.say')].every((one) => getComputedStyle(one).userSelect !== 'none')"
-    checks.is_so("what is said can be marked", browser.value(printed))
-    notes = "[...document.querySelectorAll('em.note')].map((note) => note.getClientRects().length)"
-    pieces = browser.value(f"Math.max(0, ...{notes})")
-    checks.is_so(f"raw notes are in one piece, not {pieces}", pieces <= 1)
-    browser.value("for (const fold of document.querySelectorAll('#tables details')) fold.open = true")
-    gaps = "[...document.querySelectorAll('#tables details')].every((fold) => fold.getBoundingClientRect().height" \
-        " < 26 * (fold.querySelectorAll('p').length + 1))"
-    checks.is_so("tables aren't double-spaced", browser.value(gaps))
-    folded = "[...document.querySelectorAll('.bytes')]"
-    if browser.value(f"{folded}.length"):
-        is_short = f"{folded}.every((one) => one.scrollWidth > one.clientWidth && one.getClientRects().length === 1)"
-        checks.is_so("bytes with their meaning below are folded", browser.value(is_short))
-        browser.value(f"{folded}[0].focus()")
-        checks.is_so("a click shows them", browser.value(f"getComputedStyle({folded}[0]).display") == "inline")
-    title = browser.value("document.title")
-    checks.is_so(f"the title has a name and no NUL: {title}", ": " in title and "\\x00" not in title)
-
-
-def look_by_keys(browser: Browser, checks: Tally) -> None:
-    """The tab key leads over the tree to the text, and arrows through the tree."""
-    browser.value("document.activeElement.blur(); scrollTo(0, 0)")
-    stops = browser.value("[...tree.querySelectorAll('a, summary')].filter((one) => one.tabIndex === 0).length")
-    checks.is_so(f"the tree has one tab stop, not {stops}", stops == 1)
-    checks.is_so("the first link skips to the text", browser.value("document.querySelector('a').hash") == "#main")
-    browser.value("focusStop(treeStops()[0])")
-    wanted = browser.value("treeStops()[1].textContent")
-    browser.press("ArrowDown")
-    checks.is_so("an arrow leads to the next row", browser.value("document.activeElement.textContent") == wanted)
-    closed = "[...tree.querySelectorAll('details')]" \
-        ".find((fold) => fold.firstElementChild.getClientRects().length && fold.querySelector('p'))"
-    browser.value(f"{{ const fold = {closed}; fold.open = false; focusStop(fold.querySelector('a, summary')); }}")
-    browser.press("ArrowRight")
-    checks.is_so("an arrow opens", browser.until("document.activeElement.closest('details').open"))
-    browser.press("ArrowLeft")
-    checks.is_so("an arrow closes", browser.until("!document.activeElement.closest('details').open"))
-
-
-def look_narrow(browser: Browser, checks: Tally) -> None:
-    for width in (NARROW, 320):
-        browser.width(width)
-        wide = browser.value("document.documentElement.scrollWidth")
-        checks.is_so(f"{width} pixels: it isn't wider, as {wide}", wide <= width)
-    browser.width(None)
-
-
-def look_at_comparison(browser: Browser, url: str, checks: Tally) -> None:
-    browser.open(url)
-    for what, marks in (
-        ("lines that differ are marked", ".block .differs, .block .changed"),
-        ("tables that differ are marked", "#tables .differs"),
-        ("what the other has is shown", "#comparison ins"),
-        ("and what this one has", "#comparison del"),
-    ):
-        checks.is_so(what, browser.value(f"document.querySelectorAll({json.dumps(marks)}).length") > 0)
-    check_log(browser, checks)
-
-
 def look_at_large(browser: Browser, most: float, file: pathlib.Path, checks: Tally) -> None:
-    """A page with packed parts: it opens in time, a path far down is found, told and shown, and so are its uses."""
+    """A page with packed parts opens in time."""
     seconds = min(browser.open(file.resolve().as_uri()) for _ in range(OPENINGS))
     size = file.stat().st_size / 1e6
     print(f"a page of {size:.1f} MB opened in {seconds:.2f} s")
     checks.is_so(f"{size:.1f} MB open in {most} s, not {seconds:.2f}", seconds <= most)
-    path = str(browser.value("allNodes().then((all) => all.filter((node) => node.kind === 'Method 2').at(-3).path)"))
-    browser.value(f"find.value = {json.dumps(path.lower())}; showFound()")
-    checks.is_so("a path is found first", browser.until(f"{FOUND} === {json.dumps(path)}"))
-    browser.value("found.querySelector('a').click()")
-    checks.is_so("it is seen", browser.until(f"!!byId({json.dumps(path)}) && {seen(path)}"))
-    checks.is_so("the bar tells it", browser.until(f"here.textContent === {json.dumps(path)}"))
-    checks.is_so("the tree shows it", browser.until("(tree.querySelector('[aria-current]') || {}).textContent === 'RDWR'"))
-    note = f"byId({json.dumps(path)}).parentNode.querySelector('.note')"
-    browser.click(note)
-    checks.is_so("its uses are shown", browser.until("document.querySelectorAll('#pop code').length === 2"))
-    text = "document.querySelector('.block').textContent"
-    last = json.dumps(path.split(".")[2])
-    checks.is_so("all of it is text", browser.value(f"{text}.includes('Device (DAAA)') && {text}.includes({last})"))
-    check_log(browser, checks)
+    take_steps(browser, "large", None, checks)
 
 
 # The lines of a device of a large listing: NAME is its name, @ a digit, and ######## a number.
@@ -407,8 +266,8 @@ def page_of(room: pathlib.Path, name: str, text: str, *words: object) -> pathlib
 
 def look_at_all(browser: Browser, words: argparse.Namespace, room: pathlib.Path, checks: Tally) -> None:
     picture = words.picture or room / "page.png"
-    for listing in words.listings:
-        page = page_of(room, "text", listing.read_text(), *(["--errors", words.errors] if words.errors else []))
+    for given in words.listings:
+        page = page_of(room, "text", given.read_text(), *(["--errors", words.errors] if words.errors else []))
         look(browser, page.as_uri(), picture, checks)
     if words.listings:
         return
@@ -420,7 +279,8 @@ def look_at_all(browser: Browser, words: argparse.Namespace, room: pathlib.Path,
     for word, changed in OTHERS.items():
         other = other.replace(word, changed, 1)
     (room / "other").write_text(other)
-    look_at_comparison(browser, page_of(room, "compared", outcome.out, "--compare", room / "other").as_uri(), checks)
+    browser.open(page_of(room, "compared", outcome.out, "--compare", room / "other").as_uri())
+    take_steps(browser, "comparison", None, checks)
     for size, seconds in LARGE.items():
         look_at_large(browser, seconds, page_of(room, f"{size} MB", listing(size * 1_000_000)), checks)
 

@@ -22,7 +22,7 @@ import sys
 import tempfile
 from collections import namedtuple
 
-from tally import TOP, Tally, executable
+from tally import TOP, Tally, executable, tables_in
 
 LEFT_OUT = shutil.ignore_patterns(".git", "out", "__pycache__", "must-fail", "proofs", "wrong-bodies.edits")
 # The program, and its copy by which the scripts run it
@@ -44,10 +44,7 @@ POOL_STUBS = {
 }
 COMPILERS = {"cc", "gcc", "clang", "c89", "c99"}
 # The scripts that take the program; others, each with a file in which something is wrong; what is told of empty pages
-OF_PROGRAM, WRONG, EMPTY_PAGES = (
-    [line for line in part.splitlines() if not line.startswith("#")]
-    for part in (TOP / "tests/stubs.txt").read_text().split("\n\n")
-)
+OF_PROGRAM, WRONG, EMPTY_PAGES = tables_in("stubs.txt")
 
 
 # A script with its words, what is put into the copy in which it runs, the PATH there, and what it has to say

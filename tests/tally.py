@@ -73,6 +73,18 @@ def written(folder: pathlib.Path, files: dict[str, bytes]) -> pathlib.Path:
     return folder
 
 
+def parts_in(name: str) -> list[tuple[str, str]]:
+    """The parts of a text beside the tests: the line of each behind `== `, and those below it."""
+    parts = (TOP / "tests" / name).read_text().removeprefix("== ").split("\n== ")
+    return [(head, lines.strip("\n")) for head, _, lines in (part.partition("\n") for part in parts)]
+
+
+def tables_in(name: str) -> list[list[str]]:
+    """The tables of a text there, which blank lines part: the rows of each, without comments."""
+    parts = (TOP / "tests" / name).read_text().split("\n\n")
+    return [[line for line in part.splitlines() if not line.startswith("#")] for part in parts]
+
+
 def executable(file: pathlib.Path, text: str) -> pathlib.Path:
     """A file of this text that can be run."""
     file.parent.mkdir(parents=True, exist_ok=True)
