@@ -15,12 +15,10 @@ import functools
 import gc
 import itertools
 import os
-import pathlib
-import tempfile
 from collections import namedtuple
 
-from tally import PROGRAM, Tally, asked, written
-from compare import first_difference, run_program
+from tally import PROGRAM, Tally, asked
+from compare import difference_of, laid, run_program
 from dumps import HEADER_LENGTH, MOST_BYTES, MOST_DUMPS, dumps_of
 from loading import MOST_METHODS
 from made_code import MOST_SEGMENTS
@@ -47,16 +45,15 @@ CHAINED, STRIDE, INNER = 1_000, 50, 100
 
 
 # A set, the options of a run over it, and how that has to end; the independent reading says it where nothing stands
-Trial = namedtuple("Trial", "name files options wanted", defaults=[LIST, None])
+Trial = namedtuple("Trial", "name files options wanted externals", defaults=[LIST, None, None])
 
 
-def difference_of(program, trial):
+def tried(program, trial):
     """What a run differs in first from how it has to end, if it does; and its status."""
-    with tempfile.TemporaryDirectory() as room:
-        folder = written(pathlib.Path(room, "set"), trial.files)
-        got = run_program(program, folder, trial.options)
-        wanted = trial.wanted or run_folder(folder, trial.options)
-    return None if got == wanted else first_difference(got, wanted)[:MOST_SHOWN], got.status
+    with laid(trial) as (folder, options):
+        got = run_program(program, folder, options)
+        wanted = trial.wanted or run_folder(folder, options)
+    return None if got == wanted else difference_of(got, wanted)[:MOST_SHOWN], got.status
 
 
 def check(checks, trial, difference):
@@ -243,7 +240,7 @@ def check_cuts(checks, program):
     """Each cut, by several processes, and how many of them are taken."""
     trials, taken = list(cuts()), 0
     with concurrent.futures.ThreadPoolExecutor(len(os.sched_getaffinity(0))) as pool:
-        ended = pool.map(difference_of, itertools.repeat(program), trials)
+        ended = pool.map(tried, itertools.repeat(program), trials)
         for trial, (difference, status) in zip(trials, ended):
             check(checks, trial, difference)
             taken += status in (DONE, RAW)
@@ -255,7 +252,7 @@ def main():
     with Tally(words.stop) as checks:
         check_cuts(checks, words.program)
         for trial in itertools.chain.from_iterable(make() for make in LARGE):
-            check(checks, trial, difference_of(words.program, trial)[0])
+            check(checks, trial, tried(words.program, trial)[0])
 
 
 if __name__ == "__main__":

@@ -17,17 +17,15 @@ import contextlib
 import importlib
 import itertools
 import os
-import pathlib
 import random
 import re
 import shutil
 import subprocess
 import sys
-import tempfile
 import time
 
 from tally import DEMO, PROGRAM, TOP, Tally, asked, timed, written
-from compare import write_trial
+from compare import laid
 from made_aml import device, each, method, mixed, scope, segment, tables
 from made_sets import SetMaker
 from running import Options
@@ -200,8 +198,7 @@ def try_python(checks, acpidis, program, folders, sets):
         maker = SetMaker(random.Random(SEED), [], True, any_run, False)
         for number in range(sets):
             trial = maker.trial()
-            with tempfile.TemporaryDirectory() as room:
-                folder, options = write_trial(pathlib.Path(room), trial)
+            with laid(trial) as (folder, options):
                 wanted = outcome(program, *options.words(), folder)
                 got = outcome_in_python(acpidis, folder, trial.options, trial.externals)
             if trial.externals is not None and len(trial.externals) > MOST_COUNTS:

@@ -5,7 +5,6 @@ from __future__ import annotations
 
 import importlib.machinery
 import importlib.util
-import itertools
 import os
 import pathlib
 import resource
@@ -14,11 +13,11 @@ import subprocess
 import sys
 import tempfile
 import types
-from collections.abc import Callable, Iterable
+from collections.abc import Callable
 
 PLACES = [pathlib.Path(__file__).resolve().parent.parent / it for it in ("tests/oracle", "tests", "examples", "bench")]
 sys.path[1:1] = map(str, PLACES)
-from trying import PROGRAM, TOP, asked, end, run  # noqa: E402, F401
+from trying import PROGRAM, TOP, asked, end, first_difference, run  # noqa: E402, F401
 
 DEMO = TOP / "crates/acpidis_program/data/demo"
 
@@ -57,12 +56,6 @@ class Tally:
 
     def end(self) -> None:
         end(self.passed, self.failed)
-
-
-def first_difference(got: Iterable, wanted: Iterable) -> str | None:
-    """What some values or lines differ in first from others; None where they are the same."""
-    pairs = enumerate(itertools.zip_longest(got, wanted, fillvalue="the end"), 1)
-    return next((f"place {at}: {one!r}, not {other!r}" for at, (one, other) in pairs if one != other), None)
 
 
 def written(folder: pathlib.Path, files: dict[str, bytes]) -> pathlib.Path:

@@ -2,11 +2,11 @@
 
 import pathlib
 import random
-import tempfile
 from collections.abc import Iterator
 
 from tally import DEMO, written
 from any_run import RunNamespace, RunReader
+from compare import laid
 from dumps import aml_of, order_of
 from folders import read_folder
 from loading import Loaded, Namespace, path_text
@@ -53,11 +53,10 @@ def samples(room: pathlib.Path, folders: list, sets: int) -> Iterator[tuple[str,
         maker, number = SetMaker(random.Random(0), any_run=any_run), 0
         while number < sets:
             trial = maker.trial()
-            with tempfile.TemporaryDirectory() as name:
-                folder = written(pathlib.Path(name, "set"), trial.files)
-                outcome = run_folder(folder, trial.options)
-                if not trial.options.check and outcome.status != REFUSED:
-                    yield f"made-up set {number}", folder, trial.options, outcome
+            with laid(trial) as (folder, options):
+                outcome = run_folder(folder, options)
+                if not options.check and outcome.status != REFUSED:
+                    yield f"made-up set {number}", folder, options, outcome
                     number += 1
 
 

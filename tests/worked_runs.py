@@ -9,28 +9,23 @@ status, its text and its error lines. Each of them is also what the independent 
 alone is tried. The last line is 'N passed, N failed'.
 """
 
-import dataclasses
 import itertools
-import pathlib
-import tempfile
 
 from tally import PROGRAM, TOP, Tally, asked, first_difference
 from cases import Rows
-from compare import run_program
+from compare import laid, run_program
 from folders import MAP_NAME
 from loading import path_text
+from made_sets import Trial
 
 RUNS = ["worked_runs.txt", "worked_runs_any_run.txt"]
 MARGIN = "  "
 
 
-def write_set(folder, dumps):
-    """The files of a set, and the map of their addresses where they have any."""
-    for dump in dumps:
-        (folder / dump.name).write_bytes(dump.data)
+def files_of(dumps):
+    """The files of a set, with the map of their addresses where they have any."""
     places = "".join(f"{dump.address:016X} {dump.name}\n" for dump in dumps if dump.address is not None)
-    if places:
-        (folder / MAP_NAME).write_text(places)
+    return {dump.name: dump.data for dump in dumps} | ({MAP_NAME: places.encode()} if places else {})
 
 
 class ProgramRows(Rows):
@@ -41,13 +36,9 @@ class ProgramRows(Rows):
         self.program = program
 
     def run(self, options):
-        with tempfile.TemporaryDirectory() as name:
-            folder, counts = pathlib.Path(name, "tables"), pathlib.Path(name, "counts")
-            folder.mkdir()
-            write_set(folder, self.dumps)
-            counts.write_text("".join(f"{path_text(path)} {count}\n" for path, count in self.given))
-            options = dataclasses.replace(options, externals=counts if self.given else None)
-            return run_program(self.program, folder, options)
+        counts = "".join(f"{path_text(path)} {count}\n" for path, count in self.given).encode()
+        with laid(Trial(files_of(self.dumps), options, counts or None)) as laid_out:
+            return run_program(self.program, *laid_out)
 
 
 def examples(file):

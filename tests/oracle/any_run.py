@@ -4,7 +4,7 @@ the left, each with the counts of what stands before it, and declare what then s
 from collections import namedtuple
 from dataclasses import dataclass
 
-from loading import MOST_METHODS, PREDEFINED, Loaded, Method, Namespace, Unloadable, path_text, placed
+from loading import MOST_METHODS, PREDEFINED, Loaded, Method, Namespace, Unloadable, own_count, path_text, placed
 from reading import ALIAS, EXTERNAL, FIELD_LISTS, KINDS, METHOD, ROWS, SCOPE, SCOPES, Reader, Refused
 
 # The kinds of paths that a Scope opens in every run that has them
@@ -142,11 +142,6 @@ class RunNamespace(Namespace):
 def agreed(counts):
     """The count that all of them are, or None."""
     return counts[0] if len(set(counts)) == 1 else None
-
-
-def own_count(kind):
-    """The count of a kind by itself: an Alias takes none."""
-    return kind[1] if kind[0] == "Method" else 0
 
 
 @dataclass

@@ -15,8 +15,8 @@ said how the sets end. The same seed makes the same sets.
 """
 
 import collections
+import contextlib
 import dataclasses
-import itertools
 import os
 import pathlib
 import random
@@ -27,7 +27,7 @@ import subprocess
 import tempfile
 import time
 
-from trying import asked, built, end, run
+from trying import asked, built, end, first_difference, run
 from folders import file_names
 from made_sets import SetMaker
 from mutating import MutatedMaker
@@ -56,12 +56,10 @@ def run_program(program, folder, options):
     return measured_run(program, folder, options)[0]
 
 
-def first_difference(got, wanted):
+def difference_of(got, wanted):
     """Which line two outcomes differ in first, of status, errors and text; None where they are the same."""
     status = lambda it: f"status {it.status} {it.err.partition(chr(10))[0]}".strip()
-    lines = ([status(it), *it.err.split("\n"), *it.out.split("\n")] for it in (got, wanted))
-    pairs = itertools.zip_longest(*lines, fillvalue="the end")
-    return next((f"{one!r}, not {other!r}" for one, other in pairs if one != other), None)
+    return first_difference(*([status(it), *it.err.split("\n"), *it.out.split("\n")] for it in (got, wanted)))
 
 
 class Comparison:
@@ -80,7 +78,7 @@ class Comparison:
         runs = [dataclasses.replace(options, workers=it) for it in self.workers or [options.workers]]
         for asked in runs if self.program else []:
             got, much = measured_run(self.program, folder, asked)
-            difference = first_difference(got, wanted) or much
+            difference = difference_of(got, wanted) or much
             if difference:
                 self.differences += 1
                 print(f"set {self.ends.total()} differs: acpidis {' '.join(kept_words(folder, asked))}: {difference}")
@@ -117,16 +115,18 @@ def kept_words(folder, options):
     return [*options.words(), str(kept)]
 
 
-def write_trial(room, trial):
-    """Writes what a trial reads into an empty room, and gives its folder and its options."""
-    folder = room / FOLDER
-    folder.mkdir()
-    for name, data in trial.files.items():
-        (folder / name).write_bytes(data)
-    if trial.externals is None:
-        return folder, trial.options
-    (room / EXTERNALS).write_bytes(trial.externals)
-    return folder, dataclasses.replace(trial.options, externals=str(room / EXTERNALS))
+@contextlib.contextmanager
+def laid(trial):
+    """The folder of what a trial reads, as long as it is wanted, and the options of its run."""
+    with tempfile.TemporaryDirectory() as name:
+        folder, counts, options = pathlib.Path(name, FOLDER), pathlib.Path(name, EXTERNALS), trial.options
+        folder.mkdir()
+        for file, data in trial.files.items():
+            (folder / file).write_bytes(data)
+        if trial.externals is not None:
+            counts.write_bytes(trial.externals)
+            options = dataclasses.replace(options, externals=str(counts))
+        yield folder, options
 
 
 def main():
@@ -147,8 +147,8 @@ def main():
         if comparison.differences >= MOST_DIFFERENCES:
             break
         trial, number = maker.trial(), number + 1
-        with tempfile.TemporaryDirectory() as room:
-            comparison.compare(*write_trial(pathlib.Path(room), trial))
+        with laid(trial) as laid_out:
+            comparison.compare(*laid_out)
     print(f"seed {words.seed}")
     comparison.report()
 

@@ -1,5 +1,6 @@
 """Dumps of tables after docs/tables.md: which are taken, the order of the definition blocks, and the lines of all dumps."""
 
+import pathlib
 import re
 from collections import namedtuple
 
@@ -11,23 +12,18 @@ ROOT, FACS = b"RSD PTR ", b"FACS"
 # The tables that list others, and how many bytes an address has in them.
 LISTS = {b"XSDT": 8, b"RSDT": 4}
 
+TABLES = (pathlib.Path(__file__).parent / "tables.txt").read_text().split("\n\n")
+FADT, MADT = (table.splitlines()[1:] for table in TABLES)
 # A field of the FADT: its label, its offset, its width.
-FADT_FIELDS = (
-    ("FirmwareCtrl", 36, 4), ("Dsdt", 40, 4), ("Profile", 45, 1), ("SciInt", 46, 2), ("SmiCmd", 48, 4), ("AcpiEnable", 52, 1),
-    ("AcpiDisable", 53, 1), ("Pm1aEvt", 56, 4), ("Pm1aCnt", 64, 4), ("PmTmr", 76, 4), ("Gpe0", 80, 4), ("Gpe0Len", 92, 1),
-    ("BootArch", 109, 2), ("Flags", 112, 4), ("XFirmwareCtrl", 132, 8), ("XDsdt", 140, 8),
-)
-# A record of the MADT by its type and length: its label, and for each field label, offset, width, and whether it is hexadecimal.
-RECORDS = {
-    (0, 8): ("LocalApic", ("Uid", 2, 1, 0), ("Apic", 3, 1, 0), ("Flags", 4, 4, 1)),
-    (1, 12): ("IoApic", ("Id", 2, 1, 0), ("Address", 4, 4, 1), ("Gsi", 8, 4, 0)),
-    (2, 10): ("Override", ("Bus", 2, 1, 0), ("Source", 3, 1, 0), ("Gsi", 4, 4, 0), ("Flags", 8, 2, 1)),
-    (3, 8): ("NmiSource", ("Flags", 2, 2, 1), ("Gsi", 4, 4, 0)),
-    (4, 6): ("LocalNmi", ("Uid", 2, 1, 0), ("Flags", 3, 2, 1), ("Lint", 5, 1, 0)),
-    (5, 12): ("AddressOverride", ("", 4, 8, 1)),
-    (9, 16): ("X2Apic", ("Id", 4, 4, 0), ("Flags", 8, 4, 1), ("Uid", 12, 4, 0)),
-    (10, 12): ("X2Nmi", ("Flags", 2, 2, 1), ("Uid", 4, 4, 0), ("Lint", 8, 1, 0)),
-}
+FADT_FIELDS = [(label, int(at), int(width)) for label, at, width in map(str.split, FADT)]
+# A record of the MADT by its type and length: its label, and of each field label, offset, width, and whether it is
+# hexadecimal
+RECORDS = {}
+for head, *columns in (line.split(" | ") for line in MADT):
+    kind, length, name = head.split()
+    words = map(str.split, columns)
+    fields = [(label.strip("-"), int(at), int(width), bool(is_hex)) for label, at, width, *is_hex in words]
+    RECORDS[int(kind), int(length)] = (name, *fields)
 
 
 class Bad(Exception):

@@ -70,10 +70,8 @@ class Namespace:
             return self.externals.get(path)
         if kind[0] == "Alias":
             target = self.kind(kind[1])
-            if target is None:
-                return self.externals.get(kind[1], 0)
-            return target[1] if target[0] == "Method" else 0
-        return kind[1] if kind[0] == "Method" else 0
+            return self.externals.get(kind[1], 0) if target is None else own_count(target)
+        return own_count(kind)
 
     def arity(self, scope, unknown_zero=False):
         """How many arguments a name takes in a body, by the paths that the body declared so far."""
@@ -141,6 +139,11 @@ class Namespace:
         else:
             for name in term.declared():
                 self.declare(scope, name, ("Field",) if opcode in FIELD_LISTS else (KINDS[opcode],))
+
+
+def own_count(kind):
+    """The count of a kind by itself: an Alias takes none."""
+    return kind[1] if kind[0] == "Method" else 0
 
 
 def placed(scope, name):

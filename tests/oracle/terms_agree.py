@@ -16,14 +16,12 @@ line is 'N passed, N failed'.
 """
 
 import itertools
-import pathlib
 import random
 import re
-import tempfile
 from collections import namedtuple
 
 from trying import asked, built, end
-from compare import run_program, write_trial
+from compare import laid, run_program
 from loading import PREDEFINED, path_text
 from made_code import package_length, shortest
 from made_sets import Trial, table
@@ -216,8 +214,7 @@ def outcome_of(program, chance, codes):
     """How a program, or the independent reading where there is none, ends over the AML of tables."""
     names = ["dsdt.dat", *(f"ssdt{number}.dat" for number in range(1, len(codes)))]
     files = {name: table(chance, name[:4].upper().encode(), code) for name, code in zip(names, codes)}
-    with tempfile.TemporaryDirectory() as room:
-        folder, options = write_trial(pathlib.Path(room), Trial(files, Options(any_run=True)))
+    with laid(Trial(files, Options(any_run=True))) as (folder, options):
         return run_program(program, folder, options) if program else run_folder(folder, options)
 
 

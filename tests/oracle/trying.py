@@ -2,6 +2,7 @@
 of it takes."""
 
 import argparse
+import itertools
 import os
 import pathlib
 import subprocess
@@ -49,6 +50,12 @@ def end(passed, failed):
 def built(program=PROGRAM):
     """The program, which has to be there."""
     return program.resolve() if program.exists() else sys.exit("the program isn't built: ./acpidis demo builds it")
+
+
+def first_difference(got, wanted):
+    """What some values or lines differ in first from others; None where they are the same."""
+    pairs = enumerate(itertools.zip_longest(got, wanted, fillvalue="the end"), 1)
+    return next((f"place {at}: {one!r}, not {other!r}" for at, (one, other) in pairs if one != other), None)
 
 
 def run(command, limit, **how):
