@@ -300,13 +300,11 @@ DEEP_BODIES = (
     ("deep-units", 5_000, "units", 5_000, lambda count: (field(count),)),
     ("deep-units-outside", 2_000, "units", 10_000, lambda count: (b"", field(count))),
     # Buffers whose sizes are a name, in a package outside the methods
-    (
-        "deep-buffers", 50_000, "terms", 10_000,
-        lambda count: (b"", device(name(b"PKG_", package(b"\x12", b"\0" + b"\x11\x06^LEAF" * count)))),
-    ),
+    ("deep-buffers", 50_000, "terms", 10_000, lambda count:
+        (b"", device(name(b"PKG_", package(b"\x12", b"\0" + b"\x11\x06^LEAF" * count))))),
     # Scopes of the parent that declare nothing
     ("deep-scopes", 10_000, "terms", 5_000, lambda count: (b"", device(b"\x10\x03^\0" * count))),
-)
+)  # fmt: skip
 # AML of so many, so deep: with something at the root, in front of a scope, or behind.
 DEEP_SETS = (
     ("upward", 100_000, "names", 1000, upward),
@@ -315,20 +313,13 @@ DEEP_SETS = (
     ("upward-locals", 5_700, "names", 5_700, upward_with_locals),
     ("upward-friends", 5_700, "names", 5_700, lambda count, depth: upward_with_locals(count, depth, FRIEND)),
     # A Device at the root behind methods of the scope, which is then no more the last that was opened
-    (
-        "deep-methods-left", 2_000, "methods", 10_000,
-        lambda count, depth: deep_methods(count, depth) + device(named(1)),
-    ),
+    ("deep-methods-left", 2_000, "methods", 10_000, lambda count, depth: deep_methods(count, depth) + device(named(1))),
     # Names, each behind a Scope of a Device at the root with such a name
-    (
-        "deep-returns", 2_000, "names", 10_000,
-        lambda count, depth: device(b"") + within(depth, each(count, lambda it: scope(b"\\DEV0", name(it)) + name(it))),
-    ),
+    ("deep-returns", 2_000, "names", 10_000, lambda count, depth:
+        device(b"") + within(depth, each(count, lambda it: scope(b"\\DEV0", name(it)) + name(it)))),
     # Scopes of a Device at the root, each with a name
-    (
-        "deep-scopes-upward", 2_000, "terms", 10_000,
-        lambda count, depth: device(b"") + within(depth, each(count, lambda it: scope(b"DEV0", name(it)))),
-    ),
+    ("deep-scopes-upward", 2_000, "terms", 10_000, lambda count, depth:
+        device(b"") + within(depth, each(count, lambda it: scope(b"DEV0", name(it))))),
     # Aliases there of a name at the root, or of one that stands a half or a third of the way down
     *(
         (
@@ -338,32 +329,23 @@ DEEP_SETS = (
         for where, cut in (("upward", 1_000_000), ("halfway", 2), ("low", 3))
     ),
     # Names below paths that nothing but an External's path has, each before an Alias of a name at the root
-    (
-        "deep-unsettled", 2_000, "names", 10_000,
-        lambda count, depth: LEAF_NAME + each(count, lambda it: b"\x15\x5c\x2f\x03X" + it[1:] + b"YYYYZZZZ\0\0")
-        + within(depth, each(count, lambda it: name(b"\x5c\x2eX" + it[1:] + b"WWWW") + alias(it))),
-    ),
+    ("deep-unsettled", 2_000, "names", 10_000, lambda count, depth:
+        LEAF_NAME + each(count, lambda it: b"\x15\x5c\x2f\x03X" + it[1:] + b"YYYYZZZZ\0\0")
+        + within(depth, each(count, lambda it: name(b"\x5c\x2eX" + it[1:] + b"WWWW") + alias(it)))),
     # Devices, each with an Alias of a name at the root
-    (
-        "deep-devices-aliases", 2_000, "devices", 10_000,
-        lambda count, depth: LEAF_NAME + within(depth, each(count, lambda it: device(alias(it), it))),
-    ),
+    ("deep-devices-aliases", 2_000, "devices", 10_000, lambda count, depth:
+        LEAF_NAME + within(depth, each(count, lambda it: device(alias(it), it)))),
     # Uses of an Alias of a method in the scope
-    (
-        "deep-alias", 100_000, "names", 10_000,
-        lambda count, depth: within(depth, method(segment(0), 0, b"") + alias(b"\\ALIA", segment(0)))
-        + main_method(b"ALIA" * count),
-    ),
+    ("deep-alias", 100_000, "names", 10_000, lambda count, depth:
+        within(depth, method(segment(0), 0, b"") + alias(b"\\ALIA", segment(0))) + main_method(b"ALIA" * count)),
     ("deep-methods", 2_000, "methods", 10_000, deep_methods),
     # Uses of the last of a thousand names that the method declares beside itself
-    (
-        "deep-local-uses", 20_000, "names", 10_000,
-        lambda size, deep: deep_body(deep, each(999, lambda it: name(b"^" + it)) + name(b"^NEAR") + b"^NEAR" * size),
-    ),
+    ("deep-local-uses", 20_000, "names", 10_000, lambda size, deep:
+        deep_body(deep, each(999, lambda it: name(b"^" + it)) + name(b"^NEAR") + b"^NEAR" * size)),
     ("deep-root-uses", 100_000, "names", 10_000, deep_root_uses),
     *((*row, lambda count, depth, make=make: within(depth, make(count))) for *row, make in DEEP_TERMS),
     *((*row, lambda count, depth, make=make: deep_body(depth, *make(count))) for *row, make in DEEP_BODIES),
-)
+)  # fmt: skip
 
 SHAPES = (
     one("nested", 510, "levels", lambda count: nested(count, SEGMENTS), is_square=True),
@@ -380,71 +362,46 @@ SHAPES = (
     one("package", 1_000_000, "names", lambda count: name(b"PKG_", package(b"\x12", b"\0" + uses(count)))),
     one("package-body", 1_000_000, "names", lambda count: main_method(package(b"\x12", b"\0" + uses(count)))),
     # A chain of Aliases of a method, and calls by the first thousand of them
-    one(
-        "aliases", 1_000_000, "names",
-        lambda count: method(segment(0), 1, b"") + alias_chain(count)
-        + main_method(each(mixed(1000), lambda it: it + b"\x60")),
-    ),
-    one(
-        "external", 1_000_000, "terms",
-        lambda count: b"".join(b"\x15AAAA\x08" + bytes([it % 8]) for it in range(count)) + main_method(SEVEN),
-    ),
+    one("aliases", 1_000_000, "names", lambda count:
+        method(segment(0), 1, b"") + alias_chain(count) + main_method(each(mixed(1000), lambda it: it + b"\x60"))),
+    one("external", 1_000_000, "terms", lambda count:
+        b"".join(b"\x15AAAA\x08" + bytes([it % 8]) for it in range(count)) + main_method(SEVEN)),
     # As many Externals, each of a path of its own, as uses of them
-    one(
-        "externals", 1_000_000, "names",
-        lambda count: each(count, lambda it: b"\x15" + it + b"\x08\0") + main_method(uses(count)),
-    ),
+    one("externals", 1_000_000, "names", lambda count:
+        each(count, lambda it: b"\x15" + it + b"\x08\0") + main_method(uses(count))),
     *both("blocks", 200_000, "names", 500, blocks, any_run=True),
     # Methods that are declared in both branches, and a call of each
-    one(
-        "branches", 200_000, "methods",
-        lambda count: block(each(mixed(count), lambda it: method(it, 1, b"")))
+    one("branches", 200_000, "methods", lambda count:
+        block(each(mixed(count), lambda it: method(it, 1, b"")))
         + package(b"\xa1", each(mixed(count), lambda it: method(it, 1, b"")))
-        + main_method(each(mixed(count), lambda it: it + b"\x01")), any_run=True,
-    ),
+        + main_method(each(mixed(count), lambda it: it + b"\x01")), any_run=True),
     # Devices with a method and a name, each in an If of its own, and a call of each method
-    one(
-        "devices-in-blocks", 200_000, "devices",
-        lambda count: each(mixed(count), lambda it: block(device(method(NEAR, 1, b"") + LEAF_NAME, it)))
-        + main_method(each(mixed(count), lambda it: b"\\\x2e" + it + NEAR + b"\x01")), any_run=True,
-    ),
+    one("devices-in-blocks", 200_000, "devices", lambda count:
+        each(mixed(count), lambda it: block(device(method(NEAR, 1, b"") + LEAF_NAME, it)))
+        + main_method(each(mixed(count), lambda it: b"\\\x2e" + it + NEAR + b"\x01")), any_run=True),
     # Uses of a name at the root in a method of a scope of so many segments, in each of which it may stand too
-    *both(
-        "maybes", 100_000, "names", 500,
-        lambda count, depth: LEAF_NAME
-        + around(depth, lambda code: device(block(LEAF_NAME) + code, NEAR), main_method(LEAF * count)), any_run=True,
-    ),
+    *both("maybes", 100_000, "names", 500, lambda count, depth:
+        LEAF_NAME
+        + around(depth, lambda code: device(block(LEAF_NAME) + code, NEAR), main_method(LEAF * count)), any_run=True),
     one("maybe-aliases", 12_000, "Aliases", maybe_aliases, any_run=True, is_square=True),
-    one(
-        "maybe-aliases-deep", 1_000, "Aliases", lambda count: within(10_000, maybe_aliases(count)), any_run=True,
-        is_square=True,
-    ),
+    one("maybe-aliases-deep", 1_000, "Aliases", lambda count:
+        within(10_000, maybe_aliases(count)), any_run=True, is_square=True),
     one("names-outside", 8_000, "names", lambda count: names_outside(count, DEEPEST), any_run=True),
     # Regions in a deep scope, whose offset and length are a name at the root
     one("regions-outside", 1_000, "regions", lambda count: LEAF_NAME + regions(count, DEEPEST, LEAF), any_run=True),
     one("terms-outside", 1_000_000, "names", lambda count: names_outside(count, 2 * SEGMENTS), any_run=True),
     # A Field in a deep scope, whose connections are Buffers of a size that is a name which nothing declares
-    one(
-        "connections-outside", 100_000, "names",
-        lambda count: within(9 * SEGMENTS, package(b"\x5b\x81", NEAR + b"\1" + (b"\2\x11\5" + LEAF) * count)),
-    ),
+    one("connections-outside", 100_000, "names", lambda count:
+        within(9 * SEGMENTS, package(b"\x5b\x81", NEAR + b"\1" + (b"\2\x11\5" + LEAF) * count))),
     # Two tables that declare one name again and again
     Shape("again", 2_000_000, "names", lambda count: tables(*[LEAF_NAME * (count // 2)] * 2), any_run=True),
     # As many uses of names as lines that give them counts, and many lines for one name
-    Shape(
-        "given", 1_000_000, "lines", given=True,
-        make=lambda count: {**tables(main_method(uses(count))), GIVEN: each(mixed(count), lambda it: b"\\%s 0\n" % it)},
-    ),
-    Shape(
-        "given-again", 2_000_000, "lines", given=True,
-        make=lambda size: {
-            **tables(main_method(SEVEN)), GIVEN: b"".join(b"\\AAAA %d\n" % (number % 8) for number in range(size)),
-        },
-    ),
-    one(
-        "long-names", MOST_AML, "bytes",
-        lambda size: name(LONG_PATH) + main_method(LONG_PATH * ((size - 2 * len(LONG_PATH) - 64) // len(LONG_PATH))),
-    ),
+    Shape("given", 1_000_000, "lines", given=True, make=lambda count:
+        {**tables(main_method(uses(count))), GIVEN: each(mixed(count), lambda it: b"\\%s 0\n" % it)}),
+    Shape("given-again", 2_000_000, "lines", given=True, make=lambda size:
+        {**tables(main_method(SEVEN)), GIVEN: b"".join(b"\\AAAA %d\n" % (number % 8) for number in range(size))}),
+    one("long-names", MOST_AML, "bytes", lambda size:
+        name(LONG_PATH) + main_method(LONG_PATH * ((size - 2 * len(LONG_PATH) - 64) // len(LONG_PATH)))),
     one("carets", MOST_AML, "bytes", lambda size: main_method(b"\x71" + b"^" * (size - 64) + b"AAAA")),
     one("nots", 32_000, "methods", lambda count: nots(count, 500)),
     one("nots-deep", 508, "levels", lambda count: nots(32_000, count)),
@@ -461,11 +418,9 @@ SHAPES = (
     Shape("files", 512, "files", lambda count: sparse_files(count, 1 << 20)),
     Shape("files-large", 512, "files", lambda count: sparse_files(count, MOST_BYTES), large=True),
     Shape("tables", 512, "files", lambda count: calling_tables(count, 500, 1)),
-    Shape(
-        "madt", MOST_BYTES, "bytes",
-        lambda size: {**tables(b""), "apic.dat": table(b"APIC", bytes(8) + b"\xff\x02" * ((size - 44) // 2))},
-    ),
+    Shape("madt", MOST_BYTES, "bytes", lambda size:
+        {**tables(b""), "apic.dat": table(b"APIC", bytes(8) + b"\xff\x02" * ((size - 44) // 2))}),
     Shape("listed", 2_000_000, "entries", listed),
     # An RSDT that lists a file again and again, each byte of whose long name is four in the text
     Shape("named-entries", 262_144, "entries", lambda it: led(["rsdp.dat", "rsdt.dat", *LED, LONG_NAME], 4, it - 2)),
-)
+)  # fmt: skip
