@@ -20,7 +20,7 @@ import tempfile
 from acpidis_tools import aml, command, running
 from acpidis_tools.listing import file_name
 
-HEADER, MOST_BYTES, SHOWN_BYTES, MOST_SHOWN = 36, 16_777_216, 16, 5
+HEADER, MOST_BYTES, SHOWN_BYTES, MOST_SHOWN = aml.HEADER, 16_777_216, 16, 5
 BLOCKS = (b"DSDT", b"SSDT")
 CHAIN = (b"RSD PTR ", b"XSDT", b"RSDT", b"FACP")
 LINE = re.compile(r'acpidis: (?:table "(?P<file>[^"]*)": )?(?P<word>\w+)(?: at (?P<at>\d+)| (?P<path>\\\S*))?')
@@ -63,17 +63,8 @@ def shown_name(name):
 
 def refusal_of(program, options, folder):
     """Why the program refuses the set; None where it doesn't."""
-    words = [program, *options, "--check", "--", folder]
-    try:
-        done = subprocess.run(words, stdin=subprocess.DEVNULL, capture_output=True, check=False)
-        said = done.stderr.decode(errors="surrogateescape").splitlines()
-    except (OSError, ValueError) as fault:
-        raise running.Unusable(f"cannot run {program}: {fault}") from fault
-    if done.returncode == 1 and len(said) == 1:
-        return Refusal(said[0])
-    if done.returncode not in (0, 3):
-        raise running.Unusable(f"{program} ended with status {done.returncode}: {' '.join(said[:1])}")
-    return None
+    *_, line = running.ended([program, *options, "--check", "--", folder], "surrogateescape")
+    return None if line is None else Refusal(line)
 
 
 def file_names(folder):
@@ -108,10 +99,6 @@ def read_file(folder, name):
         return file.read(MOST_BYTES + 1)
 
 
-def aml_of(data):
-    return data[HEADER : int.from_bytes(data[4:8], "little")]
-
-
 class Set:
     """The tables in load order, read up to where the set is refused, and where it is asked for behind that too."""
 
@@ -119,7 +106,7 @@ class Set:
         self.order = load_order(program, asked.folder)
         if refusal.file is not None and refusal.file not in self.order:
             self.order.append(refusal.file)
-        self.codes = [aml_of(read_file(asked.folder, name)) for name in self.order]
+        self.codes = [aml.code_of(read_file(asked.folder, name)) for name in self.order]
         self.space = aml.Space(sum(map(len, self.codes)))
         self.any_run, self.at_fault = asked.any_run, None
         self.wants_any_run = asked.has_any_run and not asked.any_run
@@ -303,7 +290,7 @@ def words_on(asked, refusal):
         return WORDS["the text of acpidump"]
     # No option takes a Return outside the methods.
     is_code = refusal.word == "ModuleCode" and None not in (refusal.file, refusal.at)
-    code = aml_of(read_file(asked.folder, refusal.file)) if is_code else b""
+    code = aml.code_of(read_file(asked.folder, refusal.file)) if is_code else b""
     told_by = {**WORDS, **RAN} if asked.any_run or code[refusal.at :][:1] == b"\xa4" else WORDS
     return told_by.get(refusal.word, ("", [], []))
 

@@ -18,7 +18,7 @@ from collections import namedtuple
 
 from acpidis_tools import aml, command
 
-HEADER, SUM, OEM_REVISION = 36, 9, 24
+HEADER, SUM, OEM_REVISION = aml.HEADER, 9, 24
 # The terms with a scope of their own, so that names inside mean the same wherever they stand.
 SCOPED = aml.OPENERS | {"Method"}
 ARCHIVE = "kernel/firmware/acpi"
@@ -65,7 +65,7 @@ def code_of(dump, file):
     length = int.from_bytes(dump[4:8], "little")
     if len(dump) < HEADER or not HEADER <= length <= len(dump):
         raise Refused(f"{file!r} is no table")
-    return dump[HEADER:length]
+    return aml.code_of(dump)
 
 
 def place_in(code, path, file):

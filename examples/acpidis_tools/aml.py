@@ -11,7 +11,7 @@ from collections import namedtuple
 
 from acpidis_tools import paths, standard
 
-MOST_LEVELS = 512
+HEADER, MOST_LEVELS = 36, 512
 # A level of terms is a few calls deep.
 sys.setrecursionlimit(20_000)
 # A segment, or as much of one as stands there
@@ -372,6 +372,11 @@ class Reader:
         if node is None:
             self.missing.append((term, self.scope, None))
         return node
+
+
+def code_of(dump):
+    """The AML of a dump: what stands behind its header, up to its length."""
+    return dump[HEADER : int.from_bytes(dump[4:8], "little")]
 
 
 def is_name_lead(byte):

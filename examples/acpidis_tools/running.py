@@ -210,17 +210,24 @@ class Listing:
 Run = namedtuple("Run", "refused listing faults")
 
 
-def run(words):
-    """Runs the program with these words."""
+def ended(words, errors="strict"):
+    """What the program writes with these words, the lines of its standard error, and that of a refusal or None."""
     try:
         done = subprocess.run(words, stdin=subprocess.DEVNULL, capture_output=True, check=False)
-        out, err = done.stdout, done.stderr.decode().splitlines()
+        err = done.stderr.decode(errors=errors).splitlines()
     except (OSError, ValueError) as fault:
         raise Unusable(f"cannot run {words[0]}: {fault}") from fault
-    if done.returncode == 1 and len(err) == 1:
-        return Run(err[0].removeprefix("acpidis: "), None, [])
-    if done.returncode not in (0, 3):
+    is_refused = done.returncode == 1 and len(err) == 1
+    if not is_refused and done.returncode not in (0, 3):
         raise Unusable(f"{words[0]} ended with status {done.returncode}: {' '.join(err[:1])}")
+    return done.stdout, err, err[0] if is_refused else None
+
+
+def run(words):
+    """Runs the program with these words."""
+    out, err, refusal = ended(words)
+    if refusal is not None:
+        return Run(refusal.removeprefix("acpidis: "), None, [])
     faults = [FAULT.fullmatch(line) for line in err]
     listing = Listing(out)
     if None in faults or len(faults) != sum(method.raw is not None for method in listing.methods):

@@ -64,11 +64,11 @@ def told(folder, blocks):
     for block in blocks:
         path = os.path.join(os.fsencode(folder), file_name(block.table.file))
         dump = command.read(path)
-        code = dump[36 : int.from_bytes(dump[4:8], "little")]
+        code = aml.code_of(dump)
         reader = Reader(code, block.said, block.bodies)
         at = reader.read()
         if at < len(code) or next(reader.said, None):
-            where = f"they differ at byte {at + 36}"
+            where = f"they differ at byte {at + aml.HEADER}"
             command.leave(f"asl: {os.fsdecode(path)!r} isn't the dump of this listing: {where}")
         forms = {"lengths": reader.lengths, "names": reader.names}
         what = ", ".join(f"{sum(it)} of {len(it)} {word}" for word, it in forms.items() if any(it))

@@ -26,6 +26,11 @@ ADDRESS_OF_ENTRY = re.compile(rf"(  Entry [0-9A-F]+) ({TEXT})")
 HEADS = ("", "File", "Table", "Length", "Revision", "OEM", "Creator", "")
 
 
+def folded_list(head: str, items: list[str], is_open: bool = False) -> list[str]:
+    """Items of a list that folds."""
+    return [f"<details{' open' * is_open}><summary>{head}</summary><ul>\n", *items, "</ul></details>"]
+
+
 def raw_list_html(sheet: Sheet) -> list[str]:
     raw = [line for line in raw_lines(sheet.listing) if sheet.shows(line.number)]
     if not raw:
@@ -33,7 +38,7 @@ def raw_list_html(sheet: Sheet) -> list[str]:
     name = lambda line: f"<a href=#{line.number}>{path_text(line.method)}</a>"
     items = [f"<li>{name(line)} {sheet.faults.get(line.number, '')}</li>\n" for line in raw]
     head = "1 body is raw" if len(raw) == 1 else f"{len(raw):,} bodies are raw"
-    return [f"<section id=raw><details><summary>{head}</summary><ul>\n", *items, "</ul></details></section>\n"]
+    return ["<section id=raw>", *folded_list(head, items), "</section>\n"]
 
 
 def undeclared_html(sheet: Sheet) -> list[str]:
@@ -105,8 +110,7 @@ def table_changes_html(sheet: Sheet) -> list[str]:
         head = f"<a href=#{numbers[file]}>{name}</a>" if file in numbers else f"{name}, here not"
         shown = f"<pre>{escape(chr(10).join(lines))}</pre>" if lines else " isn't there" if lines is None else " lacks lines"
         items.append(f"<li class=changed>{head}{shown}</li>\n")
-    head = f"<details open><summary>{counted(len(items), 'table')} that it has otherwise</summary><ul>\n"
-    return [head, *items, "</ul></details>\n"]
+    return [*folded_list(f"{counted(len(items), 'table')} that it has otherwise", items, True), "\n"]
 
 
 def comparison_html(sheet: Sheet) -> list[str]:
@@ -133,9 +137,7 @@ def comparison_html(sheet: Sheet) -> list[str]:
     ours, theirs = escape(sheet.name), escape(found.other)
     kinds = ((adds, f"{theirs} alone has"), (lacks, f"{ours} alone has"), (changes, f"{theirs} has otherwise than {ours}"))
     for items, word in kinds:
-        state = " open" if len(items) <= MOST_OPEN else ""
-        head = f"<summary>{counted(len(items), 'path')} that {word}</summary>"
-        written += [f"<details{state}>{head}<ul>\n", *items, "</ul></details>\n"]
+        written += [*folded_list(f"{counted(len(items), 'path')} that {word}", items, len(items) <= MOST_OPEN), "\n"]
     return [*written, "</section>\n"]
 
 
