@@ -82,11 +82,6 @@ def compiled(devices: int, times: int = 1) -> dict:
     return tables(b"".join(code.replace(OUTERMOST, b"X%03d" % number) for number in range(times)))
 
 
-def long_body(size: int) -> dict:
-    """A set of a table of so many bytes with one method, in which the same terms stand again and again."""
-    return tables(shapes.method(b"MAIN", 0, MIXED * ((size - shapes.HEADER_BYTES - 10) // len(MIXED))))
-
-
 # The name of each set, and what makes its files. A device has some 420 bytes.
 SETS = (
     ("10 KB", lambda: compiled(24)),
@@ -95,7 +90,8 @@ SETS = (
     ("16 MB", lambda: compiled(2_360, 16)),
     ("20,000 methods", lambda: tables(shapes.many_methods(20_000))),
     ("101 tables", lambda: shapes.calling_tables(101, 20, 2, b"\x08\x02")),
-    ("one long body", lambda: long_body(1 << 20)),
+    # One method in 1 MB, in which the same terms stand again and again
+    ("one long body", lambda: tables(shapes.method(b"MAIN", 0, MIXED * (((1 << 20) - 46) // len(MIXED))))),
 )
 
 

@@ -37,7 +37,7 @@ from acpidis_tools.collecting import Collector, record_rows, table_rows
 from acpidis_tools.errors import Fault, read_errors
 from acpidis_tools.listing import Listing, NoListing, file_name, read_dumps, read_listing
 from acpidis_tools.names import Names
-from acpidis_tools.schema import COLUMNS, INDEXES, OF_CODE, SCHEMA, insertion, shifted
+from acpidis_tools.schema import COLUMNS, INDEXES, OF_CODE, SCHEMA, shifted
 
 # A line takes half a kilobyte of memory.
 MOST_BYTES, MOST_LINES = 256_000_000, 1_000_000
@@ -147,7 +147,8 @@ class Database:
         self.connection.executescript(f"PRAGMA journal_mode = OFF; PRAGMA synchronous = OFF; BEGIN; {SCHEMA}")
 
     def add(self, table: str, rows: list[list]) -> None:
-        self.connection.executemany(insertion(table), rows)
+        marks = ", ".join("?" * len(COLUMNS[table]))
+        self.connection.executemany(f"INSERT INTO {table} VALUES ({marks})", rows)
 
     def close(self) -> None:
         self.connection.execute("COMMIT")

@@ -18,7 +18,7 @@ import re
 import shutil
 import subprocess
 
-from tally import DEMO, PROGRAM, Tally, asked, parts_in, run_script, tables_in, timed, written
+from tally import DEMO, PROGRAM, Tally, asked, parts_in, tables_in, timed, written
 import splice
 from acpidis_tools.asl.blocks import Block, Reader
 from acpidis_tools.asl.names import said_by
@@ -44,14 +44,6 @@ class Checks(Tally):
     def __init__(self, stops):
         super().__init__(stops)
         self.same = self.told = 0
-
-    def run(self, script, *words, **more):
-        return run_script(script, *words, cwd=self.room, **more)
-
-    def text(self, name, text, encoding="ascii"):
-        """A file of the room."""
-        (self.room / name).write_text(text, encoding)
-        return self.room / name
 
     def says(self, what, words, status, said="", printed=None):
         """A script ends so, with these lines of standard error, and of standard output where these are told."""
@@ -157,7 +149,7 @@ def check_told(checks):
 
 def check_misread(checks):
     for content, what in MISREAD:
-        text = checks.text("misread.text", content, "utf-8")
+        text = checks.text("misread.text", content)
         for words in ([ASL, text, "misread"], [ASL, "--edit", text, "misread"]):
             checks.says(content[-300:], words, 1, f"asl: {str(text)!r}: {what}\n")
     checks.is_so("nothing is written", not (checks.room / "misread").exists())

@@ -14,7 +14,7 @@ import re
 import shlex
 import subprocess
 
-from tally import TOP, Tally, asked, executable, on_full_disk, parts_in, run_script, timed, written
+from tally import TOP, Tally, asked, executable, on_full_disk, parts_in, timed, written
 from made_aml import SETS, device, method, table, tables
 
 
@@ -32,7 +32,7 @@ class Tries(Tally):
         return str(executable(self.room / name, f"#!/bin/sh\n{text}\n"))
 
     def run(self, script, *words, **variables):
-        return run_script(script, *words, cwd=self.room, env={**os.environ, **variables})
+        return super().run(script, *words, env={**os.environ, **variables})
 
     def row(self, name, run, status, out, said=(), is_whole=True):
         """This status and standard output, or these lines of it, and these lines among those of standard error."""

@@ -35,7 +35,7 @@ lists() {
     name=$1 status=$2 lines=$3
     shift 3
     row "$name" "$status" "$lines" ./program "$@"
-    python3 "$top/tests/oracle/listing.py" "$@" 2>/dev/null | prints
+    python3 "$top/tests/oracle/running.py" "$@" 2>/dev/null | prints
 }
 
 # refused NAME LINE WORD..: with these words the program has the status 1, and says this
@@ -92,7 +92,7 @@ cp -r raw summed
 printf '\001' | dd of=summed/ssdt1.dat bs=1 seek=9 conv=notrunc 2>/dev/null
 raw_errors='acpidis: body \AAAA: UnknownName at 1
 acpidis: body \DDDD: UnknownName at 1'
-python3 "$top/tests/oracle/listing.py" raw >raw.text 2>/dev/null
+python3 "$top/tests/oracle/running.py" raw >raw.text 2>/dev/null
 
 # the command line
 for word in --help -h; do tells $word '--workers' '--any-sum' '--any-run' '--unknown-zero' '--check' 'FOLDER'; done

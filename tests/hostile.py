@@ -78,10 +78,7 @@ LOOKED_FOR = re.compile("names|scopes|calls|brackets|segments|Raw|digits")
 
 def run(script: str, *words: object, printed: int = subprocess.DEVNULL, **variables: str) -> tuple:
     """The status, standard error and the seconds of processor time of a script."""
-
-    def bound() -> None:
-        resource.setrlimit(resource.RLIMIT_AS, (MOST_MEMORY, MOST_MEMORY))
-
+    bound = lambda: resource.setrlimit(resource.RLIMIT_AS, (MOST_MEMORY, MOST_MEMORY))
     how = {"stdout": printed, "env": {**os.environ, **variables}, "preexec_fn": bound}
     done, seconds = timed(run_script, script, *words, **how)
     return done.returncode, done.stderr, seconds

@@ -9,7 +9,7 @@ from collections import namedtuple
 LINES = (pathlib.Path(__file__).parent / "iasl.txt").read_text().splitlines()[1:]
 KEYWORDS = dict(line.split(" ", 1) for line in LINES)
 FIELD = re.compile(r"^ *(?:Index|Bank)?Field \((.*)\)$")
-SPACE = re.compile(r"OperationRegion \((\S+), ([^,]+),")
+SPACE = re.compile(r"OperationRegion \([\\^]*(\S+), ([^,]+),")
 # A unit of a field list, or a gap without a name
 UNIT = re.compile(r"^ +([A-Z_0-9]{0,4}), +(\d+)")
 MACRO = re.compile(r"(\w+) +\(((?:[^()\"]|\"[^\"]*\")*)\)(?:\s*\{([0-9A-Fx,\s]*)\})?")
@@ -30,14 +30,10 @@ def facts_of(data: bytes, room: pathlib.Path) -> "dict[str, list] | None":
         "resources": [line for template in templates(text) for line in map(macro_text, MACRO.finditer(template))],
         "UUIDs": [found.lower() for found in re.findall(r'ToUUID \("([^"]*)"\)', text)],
         "EISA ids": re.findall(r'EisaId \("([^"]*)"\)', text),
-        "spaces": [f"{padded(name)} {space}" for name, space in SPACE.findall(text)],
+        "spaces": [f"{name.rpartition('.')[2].ljust(4, '_')} {space}" for name, space in SPACE.findall(text)],
         "flags": [", ".join(form[1].split(", ")[-3:]) for form in map(FIELD.match, text.splitlines()) if form],
         "units": list(units(without_connections(text))),
     }
-
-
-def padded(name: str) -> str:
-    return name.rpartition(".")[2].lstrip("\\^").ljust(4, "_")
 
 
 def behind(text: str, at: int, pair: str) -> int:

@@ -57,6 +57,15 @@ class Tally:
     def end(self) -> None:
         end(self.passed, self.failed)
 
+    def run(self, script: str, *words: object, **more: object) -> subprocess.CompletedProcess:
+        """Runs a script of examples/ in the room."""
+        return run_script(script, *words, **{"cwd": self.room, **more})
+
+    def text(self, name: str, text: str, encoding: str = "utf-8") -> pathlib.Path:
+        """A file of the room with this text."""
+        (self.room / name).write_text(text, encoding)
+        return self.room / name
+
 
 def written(folder: pathlib.Path, files: dict[str, bytes]) -> pathlib.Path:
     """A new folder with files of these contents, by their names."""

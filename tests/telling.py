@@ -13,7 +13,7 @@ from loading import Loaded, Namespace, path_text
 from made_aml import SETS, table, tables
 from made_sets import SetMaker
 from reading import ALIAS, ELSE, EXTERNAL, FIELD_LISTS, IF, METHOD, ROWS, SCOPE, SCOPES
-from reading import Name, Named, Op, Reader
+from reading import Name, Named, Op
 from running import REFUSED, Options, Outcome, run_folder
 
 Path = tuple[str, ...]
@@ -63,30 +63,16 @@ def samples(room: pathlib.Path, folders: list, sets: int) -> Iterator[tuple[str,
 # ---- what the independent reading says of each name
 
 
-class Watching(Namespace):
-    """Keeps where the names of Scopes and the sources of Aliases led while the tables were loaded, and the paths of which
-    an External says that they are methods."""
+class Watched(RunNamespace):
+    """Keeps where the names of Scopes and the sources of Aliases led while the tables were loaded, what the names of code
+    outside methods meant, and the paths of which an External says that they are methods. Without that code all is sure."""
 
-    def __init__(self) -> None:
+    def __init__(self, any_run: bool) -> None:
         super().__init__()
-        self.led: list[Path] = []
-        self.promised: set[Path] = set()
+        self.any_run, self.led, self.then, self.promised = any_run, {}, {}, set()
 
-    def load_term(self, table: int, scope: Path, term: Op) -> None:
-        keep_promise(self, scope, term)
-        super().load_term(table, scope, term)
-
-    def lead(self, scope: Path, name: Name, missing: str) -> Path:
-        self.led.append(super().lead(scope, name, missing))
-        return self.led[-1]
-
-    def is_sure(self, path: Path) -> bool:
-        return self.kind(path) is not None
-
-
-def keep_promise(space: Namespace, scope: Path, term: Op) -> None:
-    if term.opcode == EXTERNAL and term.parts[1][1] == METHOD_OBJECT:
-        space.promised.add(term.names()[0].placed(scope))
+    def declare_so(self, scope: Path, name: Name, kind: tuple, is_sure: bool, method: tuple | None = None) -> tuple:
+        return super().declare_so(scope, name, kind, is_sure or not self.any_run, method)
 
 
 class WatchingReader(RunReader):
@@ -99,17 +85,20 @@ class WatchingReader(RunReader):
             self.keep(term)
         return term, rest
 
+    def count(self, name: Name, at: int) -> int:
+        return super().count(name, at) if self.space.any_run else 0
+
     def inside(self, term: Op) -> tuple[Path, bool]:
         self.keep(term)
-        path, is_sure = super().inside(term)
-        self.space.led.append((term, path))
-        return path, is_sure
+        self.space.led[id(term)], is_sure = super().inside(term)
+        return self.space.led[id(term)], is_sure
 
     def leave(self, term: Op) -> None:
         self.keep(term)
-        keep_promise(self.space, self.scope, term)
+        if term.opcode == EXTERNAL and term.parts[1][1] == METHOD_OBJECT:
+            self.space.promised.add(term.names()[0].placed(self.scope))
         if term.opcode == ALIAS:
-            self.space.led.append((term, self.space.find(self.scope, term.names()[0])))
+            self.space.led[id(term)] = self.space.find(self.scope, term.names()[0])
         super().leave(term)
 
     def keep(self, term: object) -> None:
@@ -155,28 +144,13 @@ class Teller:
     def __init__(self, codes: list[bytes], options: Options):
         self.told: list[Told] = []
         self.uses, self.regions, self.units, self.values, self.body = [], [], [], {}, None
-        self.space, trees = self.run(codes) if options.any_run else self.load(codes)
+        self.space = Watched(options.any_run)
+        trees = [WatchingReader(code, space=self.space, table=table).read() for table, code in enumerate(codes)]
         bodies = Loaded(codes, trees, self.space).bodies(options.unknown_zero)
         self.bodies = {(body.method.table, body.method.start): body for body in bodies}
         self.seen, self.declared, self.then = set(), set(), {}
         for self.table, terms in enumerate(trees):
             self.tell_terms(terms, ())
-
-    def load(self, codes: list[bytes]) -> tuple[Namespace, list]:
-        space, trees = Watching(), [Reader(code).read() for code in codes]
-        for table, terms in enumerate(trees):
-            space.load(table, (), terms)
-        led = iter(space.led)
-        self.led_by, self.then_by = (lambda _: next(led)), {}
-        return space, trees
-
-    def run(self, codes: list[bytes]) -> tuple[Namespace, list]:
-        space = RunNamespace()
-        space.led, space.then, space.promised = [], {}, set()
-        trees = [WatchingReader(code, space=space, table=table).read() for table, code in enumerate(codes)]
-        led = {id(term): path for term, path in space.led}
-        self.led_by, self.then_by = (lambda term: led[id(term)]), space.then
-        return space, trees
 
     # ---- names
 
@@ -226,7 +200,7 @@ class Teller:
     def tell_terms(self, terms: list, scope: Path) -> None:
         for term in terms:
             opcode, names = (term.opcode, term.names()) if isinstance(term, Op) else (None, [])
-            self.then = self.then_by.get(id(term), {})
+            self.then = self.space.then.get(id(term), {})
             if opcode == METHOD:
                 path, own = self.tell_declared(names[0], scope), {}
                 self.body = path_text(path)
@@ -234,13 +208,13 @@ class Teller:
                     self.tell_term(inner, path, own, "read")
                 self.body = None
             elif opcode == SCOPE:
-                path = self.led_by(term)
+                path = self.space.led[id(term)]
                 self.tell_led(names[0], path, scope)
                 self.tell_terms(term.tail, path)
             elif opcode in SCOPES:
                 self.tell_terms(term.tail, self.tell_declared(names[0], scope))
             elif opcode == ALIAS:
-                self.tell_led(names[0], self.led_by(term), scope)
+                self.tell_led(names[0], self.space.led[id(term)], scope)
                 self.tell_declared(names[1], scope)
             elif opcode == EXTERNAL:
                 path = names[0].placed(scope)

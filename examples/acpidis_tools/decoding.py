@@ -11,7 +11,7 @@ from acpidis_tools.names import FIELD_LISTS, FIRST_WORD, Meaning, Names, is_name
 from acpidis_tools.resources import Descriptor, descriptors
 from acpidis_tools.standard import ACCESS_TYPES, EISA_NUMBER, LOCK_RULES, PREDEFINED_NAMES, UPDATE_RULES, eisa_id, named
 from acpidis_tools.standard import space_name, status_words, uuid_text, uuid_with_name, with_name
-from acpidis_tools.terms import Term, places, terms_of
+from acpidis_tools.terms import Term, places, terms_in
 
 HARDWARE_NAMES = ("_HID", "_CID")
 # A field over more descriptors is told of these alone.
@@ -82,7 +82,7 @@ class Decoder:
 
     def terms(self, line: Line) -> list[Term]:
         if self.kept[0] != line.number:
-            self.kept = line.number, terms_of(line)
+            self.kept = line.number, terms_in(line.pieces) if line.term and line.term != "Raw" else []
         return self.kept[1]
 
     def argument(self, line: Line, place: int) -> Term | None:

@@ -48,10 +48,6 @@ def read_errors(text: bytes, listing: Listing) -> dict[int, Fault]:
     return faults
 
 
-def raw_bytes(line: Line) -> bytes:
-    return bytes.fromhex("".join(line.pieces[2:]).strip(" {}").replace(",", ""))
-
-
 def name_in(code: bytes) -> aml.Name | None:
     """The name that stands at the front of the bytes (docs/names.md), and nothing where none does."""
     try:

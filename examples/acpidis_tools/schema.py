@@ -20,10 +20,6 @@ OF_CODE = [table for table, columns in COLUMNS.items() if columns[1] == "code"]
 Row = list
 
 
-def insertion(table: str) -> str:
-    return f"INSERT INTO {table} VALUES ({', '.join('?' * len(COLUMNS[table]))})"
-
-
 def shifted(rows: list[Row], table: str, bases: dict[str, int]) -> list[Row]:
     """The rows with other numbers: each counts from what its table has already."""
     references = [(0, bases[table]), *((place, bases[other]) for place, other in REFERENCES[table])]

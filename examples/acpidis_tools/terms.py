@@ -8,7 +8,6 @@ from collections.abc import Iterator
 from typing import Optional
 
 from acpidis_tools import aml
-from acpidis_tools.listing import Line
 
 # Between two words stand parentheses, commas, decimal numbers and the bytes of a buffer.
 MARK = re.compile(r"\{[0-9A-F]{2}(?:, [0-9A-F]{2})*\}|[(){},]|[0-9A-F]+")
@@ -38,10 +37,6 @@ class Term:
 
     def argument(self, place: int) -> Term | None:
         return self.arguments[place] if place < len(self.arguments) else None
-
-
-def terms_of(line: Line) -> list[Term]:
-    return terms_in(line.pieces) if line.term and line.term != "Raw" else []
 
 
 def terms_in(pieces: list[str]) -> list[Term]:

@@ -1,8 +1,18 @@
-"""A whole run: what the program prints of some dumps, or of a folder, and its status. After docs/listing.md."""
+#!/usr/bin/env python3
+"""A whole run: what the program prints of some dumps, or of a folder, and its status. After docs/listing.md.
 
+    python3 tests/oracle/running.py [OPTION..] FOLDER
+
+It prints what acpidis has to print, by the independent reading, and ends with the same status. Each OPTION is one of
+acpidis.
+"""
+
+import pathlib
+import sys
 from collections import namedtuple
 from dataclasses import dataclass, field, fields
 
+from trying import asked
 import any_run
 from dumps import Bad, aml_of, dump_lines, order_of
 from folders import Unreadable, read_externals, read_folder
@@ -99,3 +109,16 @@ def check_lines(names, loaded, bodies):
         own = [body for body in bodies if body.method.table == table]
         raw = sum(body.fault is not None for body in own)
         yield f"Check {file_text(name)} Bytes {len(code)} Methods {len(own)} Raw {raw} Same"
+
+
+def main():
+    known = {it.name: it.metadata.get("type", False) for it in fields(Options)}
+    words = vars(asked(__doc__, **known, folder=pathlib.Path()))
+    outcome = run_folder(words.pop("folder"), Options(**words))
+    sys.stdout.write(outcome.out)
+    sys.stderr.write(outcome.err)
+    sys.exit(outcome.status)
+
+
+if __name__ == "__main__":
+    main()

@@ -6,7 +6,7 @@ from __future__ import annotations
 import re
 from html import escape
 
-from acpidis_tools.errors import Fault, name_in, raw_bytes
+from acpidis_tools.errors import Fault, name_in
 from acpidis_tools.listing import Block, Line, path_text
 from acpidis_tools.names import Meaning, Names, Sort, Uses, is_name
 from acpidis_tools.page.sheet import BETWEEN, Sheet, chunk_html, classed, counted
@@ -63,7 +63,7 @@ def line_html(line: Line, sheet: Sheet, is_decoded: bool) -> str:
 def raw_html(line: Line, fault: Fault | None) -> str:
     """The bytes of a raw body, the one that the fault is about marked, and the fault."""
     shown = "".join(line.pieces[2:])
-    code = raw_bytes(line)
+    code = bytes.fromhex(shown.strip(" {}").replace(",", ""))
     said = "raw"
     if fault:
         said = f"raw: {fault}"

@@ -16,7 +16,7 @@ from acpidis_tools.errors import raw_lines
 from acpidis_tools.listing import HEADER, TEXT, Dump, Listing, path_text
 from acpidis_tools.names import PREDEFINED
 from acpidis_tools.page.lines import blocks_html, uses_html
-from acpidis_tools.page.sheet import Sheet, classed, counted, index_html, link
+from acpidis_tools.page.sheet import Sheet, classed, counted, link, packed
 from acpidis_tools.page.tree import TreeWriter
 
 HERE = pathlib.Path(__file__).resolve().parent
@@ -187,5 +187,7 @@ def page(sheet: Sheet) -> str:
     parts.append("<main id=main tabindex=-1>\n<p id=where hidden></p>\n")
     for part in (comparison_html, raw_list_html, tables_html, blocks_html, undeclared_html):
         parts += part(sheet)
-    parts.append(f"</main>\n{index_html(tree.index())}<script>{script}</script>\n</body>\n</html>\n")
+    # What is looked through by the search
+    index = f'<script type="text/plain" id=index>{packed(chr(10).join(tree.index()))}</script>\n'
+    parts.append(f"</main>\n{index}<script>{script}</script>\n</body>\n</html>\n")
     return "".join(parts)

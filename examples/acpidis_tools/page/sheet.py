@@ -121,13 +121,3 @@ def chunk_html(first: int, count: int, texts: list[str], html: str) -> str:
     head = f'<pre class=chunk style=--n:{len(texts)} data-line={first} data-count={count} data-packed="{packed(html)}">'
     text = "\n".join(texts)
     return f"{head}{escape(text)}</pre>\n"
-
-
-def branch_html(html: str) -> str:
-    """A part of the tree, which is unpacked when what it is in is opened."""
-    return f'<div class=branch data-packed="{packed(html)}"></div>\n'
-
-
-def index_html(lines: list[str]) -> str:
-    """What is looked through by the search."""
-    return f'<script type="text/plain" id=index>{packed(chr(10).join(lines))}</script>\n'

@@ -10,7 +10,7 @@ from html import escape
 from acpidis_tools.errors import raw_lines
 from acpidis_tools.listing import Path, Row, path_of, path_text
 from acpidis_tools.names import PREDEFINED
-from acpidis_tools.page.sheet import Sheet, branch_html, classed, link
+from acpidis_tools.page.sheet import Sheet, classed, link, packed
 from acpidis_tools.standard import DEVICE_NAMES
 
 DEEPEST_FOLD = 60
@@ -61,8 +61,8 @@ class TreeWriter:
         for path, node in (*self.nodes.items(), ((), None)):
             while opened and path[:len(opened[-1][0])] != opened[-1][0]:
                 if opened.pop()[1]:
-                    inner = "".join(parts.pop())
-                    parts[-1].append(branch_html(inner))
+                    inner = packed("".join(parts.pop()))  # unpacked when what it is in is opened
+                    parts[-1].append(f'<div class=branch data-packed="{inner}"></div>\n')
                 parts[-1].append("</details>\n")
             if node is None:
                 break
