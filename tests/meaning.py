@@ -5,38 +5,24 @@
 
 The page has the definitions that `Means` and `Shows` of crates/acpidis/specs/Meaning.antt are made of, as they stand in
 the specs, each before what it is made of, and each type of the sources behind the definition that names it first.
-Definitions that share a comment stay together, in the order of their file. One that goes form by form through a type that
-holds itself (`node_step` of `Node-F`) is a table, which has the forms of the type too. What only --any-run adds stands
-apart, cut off at the names of ADDED, and so does what PRINTED names. The head of the page is tests/meaning_words.md: its
-last table has just those words of the kit's library that definitions name, its other words stand on the page, and what
-it quotes in the sources. Without --write docs/meaning.md is compared with it. The last line is 'N passed, N failed'.
+Definitions that share a comment stay together, in the order of their file. One that goes form by form through a type
+that holds itself (`node_step` of `Node-F`) is a table, which has the forms of the type too. What only --any-run adds
+stands apart, cut off at the names that tests/meaning.txt has for it, and so does what a run prints. The head of the
+page is tests/meaning_words.md: its last table has just those words of the kit's library that definitions name, its
+other words stand on the page, and what it quotes in the sources. Without --write docs/meaning.md is compared with it.
+The last line is 'N passed, N failed'.
 """
 
 import itertools
 import re
 import sys
 
-from tally import TOP, Tally
+from tally import TOP, Tally, tables_in
 
 PAGE = TOP / "docs/meaning.md"
 HEAD = TOP / "tests/meaning_words.md"
-# The parts of the page: a title, and the crates and names that it begins with. A part has what these are made of, but
-# for what an earlier part has, or what another part begins with.
-PARTS = [
-    ("What a set of dumps means", "acpidis: Means"),
-    ("The order of the definition blocks", "acpi_tables: IsOrder bytes_of table_of"),
-    ("What tables declare", "aml_load: LoadsTo methods_of"),
-    ("Which bytes are terms", "aml_code: ReadsModule ReadsBody IsLawful setting_of Arities most_levels row_of last_label field_names"),
-    ("What a name means", "aml_namespace: found arity_of namespace_of kind_at aml_names: candidates placed IsName spelling PathSet"),
-    ("What a listing in memory shows", "acpidis: Shows"),
-]
-ADDED = (
-    "What `--any-run` adds",
-    "aml_load: TermsRead sure_here sure_with aml_namespace: agreed_path agreed_arity outlook_of open_in scope_in",
-)
-PRINTED = ("What a run prints", "acpidis: Lists")
-# Types that are met only as the fault of a Result, which no Ok has: they stand in a part of their own.
-FAULTS = ("What a fault can be", ["TableFault", "Bad", "LoadFault", "CodeFault", "SpaceFault"])
+# The parts of the page, as that text says
+*PARTS, ADDED, PRINTED, (FAULTS, FAULT_TYPES) = (tuple(line.split(" | ")) for line in tables_in("meaning.txt")[0])
 LINES_A_MINUTE = 22
 ROWS_A_MINUTE = 40
 # So many lines of a definition, or more, that begin or end with ∷ are rows of a table.
@@ -257,11 +243,11 @@ class Page:
         for number, (title, _) in enumerate([*PARTS, ADDED, PRINTED]):
             others = {it for other in roots[:number] + roots[number + 1 :] for it in other}
             self.part(title, roots[number], others.union(self.known))
-        # The types of FAULTS, behind all that an Ok is made of
-        types = [it for name in FAULTS[1] for (_, other), it in self.sources.types.items() if other == name]
-        self.lines += [f"## {FAULTS[0]}", "", "No statement on this page says what these hold.", ""]
+        # The types of faults, behind all that an Ok is made of
+        types = [it for name in FAULT_TYPES.split() for (_, other), it in self.sources.types.items() if other == name]
+        self.lines += [f"## {FAULTS}", "", "No statement on this page says what these hold.", ""]
         self.block("rust", [line for it in types for line in [*it.lines, ""]])
-        self.parts.append((FAULTS[0], [], types))
+        self.parts.append((FAULTS, [], types))
 
     def part(self, title, roots, others):
         definitions = topmost_first(roots, lambda it: [used for used in it.uses if used not in others])
@@ -317,8 +303,8 @@ class Page:
 
     def new_types(self, types):
         """Those of some types, and of what they are made of, that no definition named before."""
-        parts_of = lambda it: [] if it.seen or it.name in FAULTS[1] else list(self.sources.types_in(it))
-        found = [it for it in topmost_first(types, parts_of) if it not in self.shown and it.name not in FAULTS[1]]
+        parts_of = lambda it: [] if it.seen or it.name in FAULT_TYPES.split() else list(self.sources.types_in(it))
+        found = [it for it in topmost_first(types, parts_of) if it not in self.shown and it.name not in FAULT_TYPES.split()]
         self.shown += found
         return found
 
@@ -382,7 +368,7 @@ def main():
     cells = re.findall(r"^\| (`.*?`) \|", head.split("\n## ")[-1], re.MULTILINE)
     words = {word for cell in cells for word in re.findall(r"`([^` ]+)[^`]*`", cell.replace("\\|", "|"))}
     late, strange, checks = late_in(page.parts), sorted(words ^ page.kit()), Tally()
-    checks.is_so(f"PARTS, ADDED, PRINTED: no specs have {lost}", not lost)
+    checks.is_so(f"tests/meaning.txt: no specs have {lost}", not lost)
     checks.is_so(f"these stand behind what they are made of: {late}", not late)
     checks.is_so(f"tests/meaning_words.md and the definitions: {strange}", not strange)
     quoted = re.findall(r"\(`(crates/[^`]*)`\):\n\n```[a-z]+\n(.*?)^```$", head, re.MULTILINE | re.DOTALL)

@@ -20,10 +20,9 @@ import re
 import shutil
 import subprocess
 import sys
-import tempfile
 import time
 
-from tally import TOP, Tally, asked, parts_in, run_script, written
+from tally import TOP, Tally, asked, parts_in, written
 from running import Options, run_folder
 from telling import HOSTILE_FILES
 
@@ -226,29 +225,23 @@ def look_at_large(browser: Browser, most: float, file: pathlib.Path, checks: Tal
     take_steps(browser, "large", None, checks)
 
 
-# The lines of a device of a large listing: NAME is its name, @ a digit, and ######## a number.
-DEVICE = (TOP / "tests/large_device.text").read_text()
-KINDS = {
-    "CTRL": "Field", "RDWR": "Method 2", "REGS": "Region", "STAT": "Field", "VDID": "Field", "_ADR": "Name", "_CRS": "Name",
-    "_HID": "Name", "_PS0": "Method 0", "_PS3": "Method 0", "_STA": "Method 0", "_UID": "Name",
-}
-HEAD = 'Table "dsdt.dat" "DSDT" Length {size} Revision 2 Oem "TEST  " "LARGE   " 00000001 Creator "TEST" 00000001\n'
+# What a large listing begins with, the rows and the lines of each of its devices, and what stands between them and
+# behind: NAME is a device's name, @ a digit, and ######## a number.
+HEAD, ROWS, BEGIN, DEVICE, END = re.split(r"(?<=\n)\n", (TOP / "tests/large_device.text").read_text())
 DIGITS = "ABCDEFGHIJKLMNOPQRSTUVWXYZ_"
 
 
 def listing(size: int) -> str:
     """A listing of about so many bytes, like that of a large firmware."""
-    one = len(DEVICE) + sum(len(f"  \\_SB_.PCI0.DAAA.{it} {kind}\n") for it, kind in KINDS.items())
     names = map("".join, itertools.product("DEFGHIJK", *[DIGITS] * 3))
-    rows, blocks = ["  \\_SB_.PCI0 Device\n"], []
-    for number, name in enumerate(itertools.islice(names, max(1, size // one))):
-        rows.append(f"  \\_SB_.PCI0.{name} Device\n")
-        rows += [f"  \\_SB_.PCI0.{name}.{it} {kind}\n" for it, kind in KINDS.items()]
-        device = DEVICE.replace("########", f"{number:08X}").replace("@", str(number % 10))
-        blocks.append(device.replace("NAME", name))
-    text = f"Namespace {len(rows)}\n" + "".join(rows)
-    text += 'DefinitionBlock ("dsdt.dat") {\n  Scope (\\_SB_) {\n    Device (PCI0) {\n' + "".join(blocks) + "    }\n  }\n}\n"
-    return HEAD.format(size=size) + text
+    names = list(itertools.islice(names, max(1, size // len(ROWS + DEVICE))))
+    rows = "".join(ROWS.replace("NAME", name) for name in names)
+    head = HEAD.replace("SIZE", str(size)).replace("COUNT", str(rows.count("\n") + 1))
+    devices = (
+        DEVICE.replace("########", f"{number:08X}").replace("@", str(number % 10)).replace("NAME", name)
+        for number, name in enumerate(names)
+    )
+    return "".join([head, rows, BEGIN, *devices, END])
 
 
 # A listing with other numbers, in a table too
@@ -256,48 +249,43 @@ OTHERS = {"0x080AD041": "0x030AD041", "LEqual": "LGreater", "QQQQ": "QQQR", 'Rev
 LARGE = {4: 2, 16: 5}
 
 
-def page_of(room: pathlib.Path, name: str, text: str, *words: object) -> pathlib.Path:
+def page_of(checks: Tally, name: str, text: str, *words: object) -> pathlib.Path:
     """The page of a listing."""
-    (room / name).write_text(text)
-    page = room / f"{name}.html"
-    page.write_text(run_script("page.py", *words, room / name, stderr=None, check=True).stdout)
-    return page
+    made = checks.run("page.py", *words, checks.text(name, text), stderr=None, check=True)
+    return checks.text(f"{name}.html", made.stdout)
 
 
-def look_at_all(browser: Browser, words: argparse.Namespace, room: pathlib.Path, checks: Tally) -> None:
-    picture = words.picture or room / "page.png"
+def look_at_all(browser: Browser, words: argparse.Namespace, checks: Tally) -> None:
+    picture = words.picture or checks.room / "page.png"
     for given in words.listings:
-        page = page_of(room, "text", given.read_text(), *(["--errors", words.errors] if words.errors else []))
+        page = page_of(checks, "text", given.read_text(), *(["--errors", words.errors.resolve()] if words.errors else []))
         look(browser, page.as_uri(), picture, checks)
     if words.listings:
         return
-    outcome = run_folder(written(room / "set", HOSTILE_FILES), Options())
-    (room / "errors").write_text(outcome.err)
-    page = page_of(room, "text", outcome.out, "--name", "a made-up set", "--errors", room / "errors")
+    outcome = run_folder(written(checks.room / "set", HOSTILE_FILES), Options())
+    errors = checks.text("errors", outcome.err)
+    page = page_of(checks, "text", outcome.out, "--name", "a made-up set", "--errors", errors)
     look(browser, page.as_uri(), picture, checks)
     other = outcome.out
     for word, changed in OTHERS.items():
         other = other.replace(word, changed, 1)
-    (room / "other").write_text(other)
-    browser.open(page_of(room, "compared", outcome.out, "--compare", room / "other").as_uri())
+    browser.open(page_of(checks, "compared", outcome.out, "--compare", checks.text("other", other)).as_uri())
     take_steps(browser, "comparison", None, checks)
     for size, seconds in LARGE.items():
-        look_at_large(browser, seconds, page_of(room, f"{size} MB", listing(size * 1_000_000)), checks)
+        look_at_large(browser, seconds, page_of(checks, f"{size} MB", listing(size * 1_000_000)), checks)
 
 
 def main() -> None:
-    words, checks = asked(__doc__, picture=pathlib.Path, errors=str, listings=()), Tally()
+    words = asked(__doc__, picture=pathlib.Path, errors=pathlib.Path, listings=())
     if not shutil.which("chromium"):
         print("chromium is not there, so nothing is tried: on Debian, apt-get install chromium\n0 passed, 0 failed")
         return
-    with tempfile.TemporaryDirectory(ignore_cleanup_errors=True) as name:
-        room = pathlib.Path(name)
-        browser = Browser(str(room / "profile"))
+    with Tally() as checks:
+        browser = Browser(str(checks.room / "profile"))
         try:
-            look_at_all(browser, words, room, checks)
+            look_at_all(browser, words, checks)
         finally:
             browser.close()
-    checks.end()
 
 
 if __name__ == "__main__":

@@ -34,7 +34,7 @@ class Tally:
         self.stops, self.passed, self.failed = stops, 0, 0
 
     def __enter__(self) -> Tally:
-        self.place = tempfile.TemporaryDirectory()
+        self.place = tempfile.TemporaryDirectory(ignore_cleanup_errors=True)
         self.room = pathlib.Path(self.place.name)
         return self
 

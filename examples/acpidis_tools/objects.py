@@ -6,25 +6,14 @@ from __future__ import annotations
 import uuid
 from collections.abc import Iterator
 
-from acpidis_tools.standard import UUID_LENGTH, uuid_text, uuid_with_name
+from acpidis_tools.standard import UUID_LENGTH, WORDS, uuid_text, uuid_with_name
 from acpidis_tools.terms import Term
 
 ALL_FUNCTIONS, PINS = 0xFFFF, "ABCD"
 # How deep the value of a property is shown, and how many elements of it.
 DEEPEST, MOST_ELEMENTS = 3, 16
 
-# 6.1.8, the values of the fields of _PLD
-PANELS = ("top", "bottom", "left", "right", "front", "back")
-VERTICAL, HORIZONTAL = ("upper", "center", "lower"), ("left", "center", "right")
-SHAPES = (
-    "round", "oval", "square", "vertical rectangle", "horizontal rectangle", "vertical trapezoid", "horizontal trapezoid", "",
-    "chamfered",
-)  # fmt: skip
-# 9.14, the type of a USB port in _UPC
-USB_TYPES = (
-    "type A", "mini AB", "ExpressCard", "USB 3 type A", "USB 3 type B", "USB 3 micro B", "USB 3 micro AB", "USB 3 power B",
-    "type C, USB 2 alone", "type C with a switch", "type C without a switch",
-)  # fmt: skip
+PANELS, SHAPES, USB_TYPES = (WORDS[name] for name in ("PANELS", "SHAPES", "USB_TYPES"))
 PROPRIETARY = 0xFF
 # The flags of a block of _WDG, and the length of one
 WDG_KINDS = {0x08: "event", 0x02: "method", 0x04: "string"}
@@ -117,8 +106,8 @@ def pld(value: Term) -> Iterator[str]:
         words += [word for bit, word in ((65, "on the dock"), (66, "on the lid")) if bits(bit, 1)]
         words += [f"panel {PANELS[bits(67, 3)]}"] if bits(67, 3) < len(PANELS) else []
         at = bits(70, 2), bits(72, 2)
-        if max(at) < len(VERTICAL):
-            words.append(f"{VERTICAL[at[0]]} {HORIZONTAL[at[1]]}")
+        if max(at) < len(WORDS["VERTICAL"]):
+            words.append(f"{WORDS['VERTICAL'][at[0]]} {WORDS['HORIZONTAL'][at[1]]}")
         if bits(74, 4) < len(SHAPES) and SHAPES[bits(74, 4)]:
             words.append(SHAPES[bits(74, 4)])
         if bits(79, 8) or bits(87, 8):

@@ -13,23 +13,12 @@ PREDEFINED = {
     "_OSI": "Method 1",
 }  # fmt: skip
 
-# Table 5.6.2.1, the address spaces of an OperationRegion, by their numbers
-SPACES = dict(
-    enumerate(
-        "SystemMemory SystemIO PCI_Config EmbeddedControl SMBus SystemCMOS PciBarTarget IPMI GeneralPurposeIo "
-        "GenericSerialBus PCC PlatformRtMechanism".split()
-    )
-)
-SPACES[0x7F] = "FFixedHW"
+# The lists of words.txt, by their names
+LISTS = (pathlib.Path(__file__).parent / "words.txt").read_text().replace("\n  ", " ")
+WORDS = {name: tuple(words.split("; ")) for name, words in re.findall(r"^(\w+): (.*)$", LISTS, re.MULTILINE)}
+SPACES = {**dict(enumerate(WORDS["SPACES"])), 0x7F: "FFixedHW"}
 FIRST_OF_VENDORS = 0x80
-
-# 20.2.5.2, the flags of a field list: bits 0 to 3, bit 4, bits 5 and 6
-ACCESS_TYPES = ("AnyAcc", "ByteAcc", "WordAcc", "DWordAcc", "QWordAcc", "BufferAcc")
-LOCK_RULES = ("NoLock", "Lock")
-UPDATE_RULES = ("Preserve", "WriteAsOnes", "WriteAsZeros")
-
-# 6.3.7, the bits of _STA
-STATUS_BITS = ("present", "enabled", "shown", "functioning", "battery present")
+ACCESS_TYPES, LOCK_RULES, UPDATE_RULES = (WORDS[name] for name in ("ACCESS_TYPES", "LOCK_RULES", "UPDATE_RULES"))
 
 
 def tables_in(file):
@@ -60,7 +49,7 @@ def status_words(number: int) -> str:
     """What _STA says with a number."""
     if not number & 0b1001:
         return "not present"
-    words = [word if number >> bit & 1 else f"not {word}" for bit, word in enumerate(STATUS_BITS[:4])]
+    words = [word if number >> bit & 1 else f"not {word}" for bit, word in enumerate(WORDS["STATUS_BITS"][:4])]
     return ", ".join(words)
 
 

@@ -1,17 +1,13 @@
 """What ASL and iasl have for the numbers and words of a listing (ACPI 6.5, chapters 19 and 20)."""
 
-from acpidis_tools.standard import tables_in
+from acpidis_tools.standard import WORDS, tables_in
 
 # The numbers of iasl's messages that are turned off, with what each says; and those where the text isn't to be changed
 OFF, OFF_UNCHANGED = tables_in("asl/messages.txt")
 
 # The attributes of an access that have a length behind them.
 EXTENDED = {0x0B: "AttribBytes", 0x0E: "AttribRawBytes", 0x0F: "AttribRawProcessBytes"}
-MATCHES = "MTR MEQ MLE MLT MGE MGT".split()
-OBJECTS = (
-    "UnknownObj IntObj StrObj BuffObj PkgObj FieldUnitObj DeviceObj EventObj MethodObj MutexObj OpRegionObj PowerResObj "
-    "ProcessorObj ThermalZoneObj BuffFieldObj DDBHandleObj"
-).split()
+MATCHES, OBJECTS = WORDS["MATCHES"], WORDS["OBJECTS"]
 # The type of an External by the kind of a row; of the others it isn't known.
 OBJECT_OF = {
     "Device": "DeviceObj", "Event": "EventObj", "Mutex": "MutexObj", "Region": "OpRegionObj", "DataRegion": "OpRegionObj",
@@ -22,7 +18,7 @@ MOST_SYNC_LEVEL = 15
 
 # The mnemonics that ASL has otherwise, and the names that are words of ASL.
 RENAMED = {"DataRegion": "DataTableRegion", "VarPackage": "Package"}
-WORDS = set("CASE EDGE ELSE IPMI LAND LNOT LOAD LOCK NAME NAND NOOP ONES WAIT ZERO ARG0 ARG1 ARG2 ARG3 ARG4 ARG5 ARG6".split())
+RESERVED = set("CASE EDGE ELSE IPMI LAND LNOT LOAD LOCK NAME NAND NOOP ONES WAIT ZERO ARG0 ARG1 ARG2 ARG3 ARG4 ARG5 ARG6".split())
 FLAGS = {"Field": 1, "IndexField": 2, "BankField": 3}
 SIZED = ("Buffer", "Package", "VarPackage")
 # The operators that have to have a target.
