@@ -21,20 +21,12 @@ import tempfile
 
 import measuring
 import hostile_shapes
-from trying import PROGRAM, Answer, asked
+from trying import PROGRAM, asked
 
 MOST_GROWTH, MOST_SQUARE_GROWTH = 2.4, 4.4
 IASL_SECONDS = 20
 # Below this much processor time the start of the program counts for too much.
 LEAST_SECONDS = 0.1
-
-
-def measured(command, folder, count, limit):
-    """The least of each of so many runs, but the most memory; nothing where one takes too long."""
-    answers = measuring.several(count, command, folder, limit)
-    if not answers:
-        return None
-    return Answer(*map(min, zip(*answers)))._replace(peak=max(answer.peak for answer in answers))
 
 
 def printed_bytes(command, folder):
@@ -78,10 +70,10 @@ def run_shape(shape, compiler, work, asked):
         measuring.write(folder, lambda: shape.make(size))
         command = [asked.program, *shape.options(folder), str(folder)]
         for kind, words in zip(answers, (command, [*command, "--check"])):
-            kind.insert(0, measured(words, folder, asked.runs, asked.seconds))
+            kind.insert(0, measuring.best(asked.runs, words, folder, asked.seconds))
     text_bytes = printed_bytes(command, folder) if answers[0][0] else None
     is_one = [path.name for path in folder.iterdir()] == ["dsdt.dat"]
-    iasl = measured([compiler, "-d", "dsdt.dat"], folder, 1, IASL_SECONDS) if compiler and is_one else None
+    iasl = measuring.best(1, [compiler, "-d", "dsdt.dat"], folder, IASL_SECONDS) if compiler and is_one else None
     print(line(shape, answers, text_bytes, iasl), flush=True)
     for folder in folders:
         shutil.rmtree(folder)

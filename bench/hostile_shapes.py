@@ -3,6 +3,7 @@ from collections import namedtuple
 from functools import partial, reduce
 
 from measuring import Sparse
+import made_aml
 from made_aml import each, mixed, packed, segment, table, tables
 
 MOST_BYTES, HEADER_BYTES, SEGMENTS = 16_777_216, 36, 255
@@ -27,9 +28,9 @@ class Shape(namedtuple("Shape", "name size unit make is_square given any_run lar
         return [OPTION, str(folder / GIVEN)] if self.given else [ANY_RUN] if self.any_run else []
 
 
-# ---- pieces
+# ---- pieces, with package lengths as short as they can be
 
-package = partial(packed, width=1)
+package, method, scope = (partial(make, width=1) for make in (packed, made_aml.method, made_aml.scope))
 
 
 def one(name, size, unit, make, **more):
@@ -37,12 +38,8 @@ def one(name, size, unit, make, **more):
     return Shape(name, size, unit, lambda count: tables(make(count)), **more)
 
 
-def method(name, flags, body):
-    return package(b"\x14", name + bytes([flags]) + body)
-
-
 def device(code, name=b"DEV0"):
-    return package(b"\x5b\x82", name + code)
+    return made_aml.device(name, code, width=1)
 
 
 def within(segments, code):
@@ -74,10 +71,6 @@ def region(segment, numbers):
 
 def block(code):
     return package(b"\xa0", b"\x01" + code)
-
-
-def scope(path, code):
-    return package(b"\x10", path + code)
 
 
 def main_method(body):

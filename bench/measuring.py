@@ -39,19 +39,14 @@ def write(folder, make):
     return sum(path.stat().st_size for path in folder.glob("*.dat"))
 
 
-def several(count, command, folder, limit, **more):
-    """What so many runs take; nothing where one takes too long."""
+def best(count, command, folder, limit, **more):
+    """The shortest of so many runs, with the most memory of any; None where one takes too long."""
     answers = []
-    while len(answers) < count and None not in answers:
-        answer = run(command, limit, cwd=folder, **more)
-        answers.append(answer if answer.seconds < limit else None)
-    return [] if None in answers else answers
-
-
-def best(*words, **more):
-    """The shortest of several runs, with the most memory of any."""
-    answers = several(*words, **more)
-    return min(answers)._replace(peak=max(answer.peak for answer in answers)) if answers else None
+    for _ in range(count):
+        answers.append(run(command, limit, cwd=folder, **more))
+        if answers[-1].seconds >= limit:
+            return None
+    return min(answers)._replace(peak=max(answer.peak for answer in answers))
 
 
 def processor_time():

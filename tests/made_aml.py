@@ -16,16 +16,16 @@ def packed(opcode, content, width=2):
     return opcode + package_length(len(content), width) + content
 
 
-def scope(name, *terms):
-    return packed(b"\x10", name + b"".join(terms))
+def scope(name, *terms, width=2):
+    return packed(b"\x10", name + b"".join(terms), width)
 
 
-def device(name, *terms):
-    return packed(b"\x5B\x82", name + b"".join(terms))
+def device(name, *terms, width=2):
+    return packed(b"\x5B\x82", name + b"".join(terms), width)
 
 
-def method(name, flags, *terms):
-    return packed(b"\x14", name + bytes([flags]) + b"".join(terms))
+def method(name, flags, *terms, width=2):
+    return packed(b"\x14", name + bytes([flags]) + b"".join(terms), width)
 
 
 def buffer(data):
