@@ -19,17 +19,21 @@ import shutil
 import subprocess
 
 from tally import DEMO, PROGRAM, Tally, asked, parts_in, tables_in, timed, written
+import hostile_shapes as shapes
 import splice
 from acpidis_tools.asl.blocks import Block, Reader
 from acpidis_tools.asl.names import said_by
 from acpidis_tools.listing import NoListing
-from dumps import dumps_of
+from dumps import aml_of, dumps_of
 from folders import read_folder
 from hostile import head_of, mutated, repeated, text_of
+from loading import load, path_text
 from made_aml import SETS, VERSIONS, device, method, scope, table, tables
+from made_code import shortest
 from made_plain import PlainMaker
 from made_sets import sealed
 from printing import file_text
+from reading import Name
 from running import REFUSED, Options, run
 from telling import HOSTILE_FILES, PAGES_FILES, RUNS_FILES
 
@@ -281,43 +285,25 @@ def check_grown(checks):
     """Methods of made-up sets, each with so many more statements at its end."""
     chance, number = random.Random(0), 0
     for seed in itertools.takewhile(lambda _: number < GROWN, range(1000, 1200)):
-        place = written(checks.room / f"grown{seed}", plain_set(seed))
-        before = listed(place)
-        paths = re.findall(r"^  (\S+) Method ([0-7])$", before, re.M)
-        for path, count in chance.sample(paths, min(4, len(paths))):
-            number += grown(checks, place, before, path, int(count), chance)
+        files = plain_set(seed)
+        place, loaded = written(checks.room / f"grown{seed}", files), load(list(map(aml_of, files.values())))
+        methods = [it for it in loaded.space.methods if not loaded.body(it, False).fault]
+        for it in chance.sample(methods, min(4, len(methods))):
+            number += 1
+            grow(checks, place / list(files)[it.table], loaded.codes[it.table], it, chance)
     checks.is_so(f"{number} methods are grown", number >= GROWN)
 
 
-def grown(checks, place, before, path, count, chance):
-    head = re.compile(rf"^( *)Method \(\S*{path[-4:]}, {count}, ", re.M)
-    found = list(head.finditer(before))
-    if len(found) != 1 or before[found[0].end() :].partition("\n")[2].lstrip().startswith("Raw {"):
-        return 0
-    file = place / re.findall(r'^DefinitionBlock \("(.*)"\) \{$', before[: found[0].start()], re.M)[-1]
+def grow(checks, file, code, it, chance):
     more = chance.choice((1, 2, 50, 63, 4000, chance.randrange(1, MOST_GROWN), MOST_GROWN))
-    dump = file.read_bytes()
-    body = body_of(dump, path)
-    if body is None:
-        return 0
-    segments = path[1:].split(".")
-    name = b"\\" + (b"/%c" % len(segments) if len(segments) > 1 else b"") + "".join(segments).encode()
-    (checks.room / "new.aml").write_bytes(table(b"SSDT", method(name, body[0], body[1:], NOOP * more)))
+    dump, before, path = file.read_bytes(), listed(file.parent), path_text(it.path)
+    new = method(shortest(Name(True, 0, it.path)), code[it.start - 1], code[it.start : it.end], NOOP * more)
+    (checks.room / "new.aml").write_bytes(table(b"SSDT", new))
     file.write_bytes(spliced(checks, file, "new.aml", path))
-    same = listed(place, ["--check"])
-    checks.is_so(f"{place}: {path}: {same}", " Differs" not in same and f'Check "{file.name}"' in same)
-    check_difference(checks, f"{place}: {path}", before, listed(place), ["Noop"] * more)
+    same = listed(file.parent, ["--check"])
+    checks.is_so(f"{file}: {path}: {same}", " Differs" not in same and f'Check "{file.name}"' in same)
+    check_difference(checks, f"{file}: {path}", before, listed(file.parent), ["Noop"] * more)
     file.write_bytes(dump)
-    return 1
-
-
-def body_of(dump, path):
-    """The flags and the body of a method of a dump, by splice.py's own reader."""
-    try:
-        place = splice.place_in(splice.code_of(dump, "dump"), path, "dump")
-    except splice.Refused:
-        return None
-    return splice.code_of(dump, "dump")[place.named : place.end]
 
 
 def check_splice(checks):
@@ -443,19 +429,15 @@ def check_folder(checks, name, content, wanted):
 
 def check_chain(checks):
     """Addresses are written where they lead to the DSDT, and acpidis takes the folder."""
-    dsdt, ssdt = table(b"DSDT", b"\x08AAAA\x01"), table(b"SSDT", b"\x08BBBB\x01")
-    fadt = table(b"FACP", bytes(104) + (0x4000).to_bytes(8, "little") + bytes(96))
-    xsdt = table(b"XSDT", (0x3000).to_bytes(8, "little") + (0x5000).to_bytes(8, "little"))
-    root = bytearray(b"RSD PTR \0TEST  \2\0\0\0\0\x24\0\0\0" + (0x2000).to_bytes(8, "little") + bytes(4))
-    root[8] = -sum(root[:20]) & 255
-    root[32] = -sum(root) & 255
-    dumped = [("RSD PTR", 0x1000, bytes(root)), ("XSDT", 0x2000, xsdt), ("FACP", 0x3000, fadt), ("DSDT", 0x4000, dsdt)]
-    dumped += [("SSDT", 0x5000, ssdt)]
+    files = shapes.led(["rsdp.dat", "xsdt.dat", *shapes.LED, "ssdt.dat"], 8, 0)
+    words = {"rsdp.dat": "RSD PTR", "xsdt.dat": "XSDT", "facp.dat": "FACP", "dsdt.dat": "DSDT", "ssdt.dat": "SSDT"}
+    places = (line.split() for line in files["tables.map"].decode().splitlines())
+    dumped = [(words[name], int(place, 16), files[name]) for place, name in places]
     for name, known, lines in (("chain", dumped, 5), ("broken chain", dumped[1:], 0)):
         checks.run(UNPACK, checks.text(name, acpidump(known)), name + ".d")
         place = checks.room / f"{name}.d" / "tables.map"
         checks.is_same(name, len(place.read_text().splitlines()) if place.exists() else 0, lines)
-        checks.is_so(f"{name} is read", "BBBB" in listed(checks.room / f"{name}.d"))
+        checks.is_so(f"{name} is read", 'DefinitionBlock ("ssdt.dat")' in listed(checks.room / f"{name}.d"))
 
 
 def check_show(checks):
