@@ -216,30 +216,32 @@ def check_mutations(checks):
 # ---- one method, changed
 
 
+def check_put_in(checks, file, made, path, lines, options=()):
+    """What a table has at a path is put into a dump, which is read whole, and whose listing has these lines more."""
+    dump, before = file.read_bytes(), listed(file.parent, options)
+    (checks.room / "new.aml").write_bytes(made)
+    file.write_bytes(spliced(checks, file, "new.aml", path))
+    same = listed(file.parent, [*options, "--check"])
+    checks.is_so(f"{file}: {path}: {same}", " Differs" not in same and f'Check "{file.name}"' in same)
+    check_difference(checks, f"{file}: {path}", before, listed(file.parent, options), lines)
+    file.write_bytes(dump)
+
+
 def added(checks, name, dumps, options):
     """A statement is put into each method of a set: compiled alone, spliced, read, and the listings differ in its line."""
     place = written(checks.room / f"changed {name}", {dump.name: dump.data for dump in dumps})
-    text = checks.text(f"{name}.text", listed(place, options))
-    paths = re.findall(r"^  (\S+) Method [0-7]$", text.read_text(), re.M)
-    for number, path in enumerate(paths):
+    text, statement = checks.text(f"{name}.text", listed(place, options)), "Store (0x11223344, Debug)"
+    for number, path in enumerate(re.findall(r"^  (\S+) Method [0-7]$", text.read_text(), re.M)):
         out = checks.room / f"{name}.{number}"
         if checks.run(ASL, "--method", path, text, out).returncode:
             continue
         (source,) = out.iterdir()
-        lines = source.read_text("ascii").split("\n")
-        at = next(number for number, line in enumerate(lines) if line.lstrip().startswith("Method ("))
-        indent = len(lines[at]) - len(lines[at].lstrip()) + 2
-        source.write_text("\n".join([*lines[: at + 1], " " * indent + "Store (0x11223344, Debug)", *lines[at + 1 :]]), "ascii")
+        whole, method_line = source.read_text("ascii"), re.compile(r"^( *)Method \(.*\n", re.M)
+        source.write_text(method_line.sub(rf"\g<0>\1  {statement}\n", whole, count=1), "ascii")
         made = compiled(source)
-        file = place / source.name.removesuffix(".asl")
-        whole = file.read_bytes()
-        if made:
-            source.with_suffix(".aml").write_bytes(made)
-            new = spliced(checks, file, source.with_suffix(".aml"), path)
-            file.write_bytes(new)
-            check_difference(checks, f"{name}: {path}", text.read_text(), listed(place, options), ["Store (0x11223344, Debug)"])
-            file.write_bytes(whole)
         checks.is_so(f"{name}: {path} is compiled", made)
+        if made:
+            check_put_in(checks, place / source.name.removesuffix(".asl"), made, path, [statement], options)
 
 
 def check_edit(checks):
@@ -290,20 +292,12 @@ def check_grown(checks):
         methods = [it for it in loaded.space.methods if not loaded.body(it, False).fault]
         for it in chance.sample(methods, min(4, len(methods))):
             number += 1
-            grow(checks, place / list(files)[it.table], loaded.codes[it.table], it, chance)
+            more = NOOP * chance.choice((1, 2, 50, 63, 4000, chance.randrange(1, MOST_GROWN), MOST_GROWN))
+            code = loaded.codes[it.table]
+            new = method(shortest(Name(True, 0, it.path)), code[it.start - 1], code[it.start : it.end], more)
+            file, path = place / list(files)[it.table], path_text(it.path)
+            check_put_in(checks, file, table(b"SSDT", new), path, ["Noop"] * len(more))
     checks.is_so(f"{number} methods are grown", number >= GROWN)
-
-
-def grow(checks, file, code, it, chance):
-    more = chance.choice((1, 2, 50, 63, 4000, chance.randrange(1, MOST_GROWN), MOST_GROWN))
-    dump, before, path = file.read_bytes(), listed(file.parent), path_text(it.path)
-    new = method(shortest(Name(True, 0, it.path)), code[it.start - 1], code[it.start : it.end], NOOP * more)
-    (checks.room / "new.aml").write_bytes(table(b"SSDT", new))
-    file.write_bytes(spliced(checks, file, "new.aml", path))
-    same = listed(file.parent, ["--check"])
-    checks.is_so(f"{file}: {path}: {same}", " Differs" not in same and f'Check "{file.name}"' in same)
-    check_difference(checks, f"{file}: {path}", before, listed(file.parent), ["Noop"] * more)
-    file.write_bytes(dump)
 
 
 def check_splice(checks):
