@@ -199,17 +199,14 @@ def check_fleet(checks: Tally, room: pathlib.Path) -> None:
     checks.is_same("no part is left", (room / "fleet.facts.part").exists(), False)
 
 
-def make_more(room: pathlib.Path) -> None:
-    """Facts of the fields of tables, statements, resources and regions, for questions."""
+def check_questions(checks: Tally, room: pathlib.Path) -> None:
+    """The questions of tests/facts.txt, each with a row of its answer a line; some of the fields of tables, statements,
+    resources and regions of other sets."""
     run(TOP / "tests/records.text", room / "records.facts")
     for name in ("wired", "pci"):
         outcome = run_folder(written(room / name, tables(*SETS[name])), Options())
         (room / f"{name}.text").write_text(outcome.out)
         run(room / f"{name}.text", room / f"{name}.facts")
-
-
-def check_questions(checks: Tally, room: pathlib.Path) -> None:
-    """The questions of tests/facts.txt, each with a row of its answer a line."""
     for head, rows in parts_in("facts.txt")[1:]:
         (name, _, file), lines = head.rpartition(": "), rows.split("\n")
         wanted = [ast.literal_eval(line) for line in lines if line.startswith("(")]
@@ -257,7 +254,6 @@ def main() -> None:
         check_many(checks, room)
         check_fleet(checks, room)
         check_progress(checks)
-        make_more(room)
         check_questions(checks, room)
         check_words(checks, room)
 

@@ -48,10 +48,6 @@ def body(*lines: str, path: str = "\\AAAA", rows: tuple = ()) -> str:
     return text_of([*rows, f"{path} Method 0"], [head, *inside, "}"])
 
 
-def deep(segments: int) -> str:
-    return "\\" + ".".join(f"S{number:03d}" for number in range(segments))
-
-
 def repeated(form: re.Match) -> str:
     """So many of a text, each with its number."""
     return "".join(form[1].replace("###", f"{number % 1000:03d}") for number in range(int(form[2]))).replace("|", "\n")
@@ -65,13 +61,11 @@ def written_down() -> Iterator[tuple[str, str]]:
         yield what, text_of(rows, lines[len(rows) :])
 
 
-TEXTS = {
-    **dict(written_down()),
-    "200 scopes in each other": text_of([f"{deep(number + 1)} Device" for number in range(200)], [
-        *("  " * number + f"Device (S{number:03d}) {{" for number in range(200)),
-        *("  " * number + "}" for number in range(199, -1, -1)),
-    ]),
-}
+NAMES = [f"S{number:03d}" for number in range(200)]
+ROWS = [f"\\{'.'.join(NAMES[:number])} Device" for number in range(1, 201)]
+OPENED = [f"{'  ' * number}Device ({name}) {{" for number, name in enumerate(NAMES)]
+CLOSED = ["  " * number + "}" for number in range(199, -1, -1)]
+TEXTS = {**dict(written_down()), "200 scopes in each other": text_of(ROWS, OPENED + CLOSED)}
 # What is for the scripts too that look for names alone.
 LOOKED_FOR = re.compile("names|scopes|calls|brackets|segments|Raw|digits")
 

@@ -23,6 +23,7 @@ PAGE = TOP / "docs/meaning.md"
 HEAD = TOP / "tests/meaning_words.md"
 # The parts of the page, as that text says
 *PARTS, ADDED, PRINTED, (FAULTS, FAULT_TYPES) = (tuple(line.split(" | ")) for line in tables_in("meaning.txt")[0])
+FAULT_TYPES = FAULT_TYPES.split()
 LINES_A_MINUTE = 22
 ROWS_A_MINUTE = 40
 # So many lines of a definition, or more, that begin or end with ∷ are rows of a table.
@@ -244,7 +245,7 @@ class Page:
             others = {it for other in roots[:number] + roots[number + 1 :] for it in other}
             self.part(title, roots[number], others.union(self.known))
         # The types of faults, behind all that an Ok is made of
-        types = [it for name in FAULT_TYPES.split() for (_, other), it in self.sources.types.items() if other == name]
+        types = [it for name in FAULT_TYPES for (_, other), it in self.sources.types.items() if other == name]
         self.lines += [f"## {FAULTS}", "", "No statement on this page says what these hold.", ""]
         self.block("rust", [line for it in types for line in [*it.lines, ""]])
         self.parts.append((FAULTS, [], types))
@@ -303,8 +304,8 @@ class Page:
 
     def new_types(self, types):
         """Those of some types, and of what they are made of, that no definition named before."""
-        parts_of = lambda it: [] if it.seen or it.name in FAULT_TYPES.split() else list(self.sources.types_in(it))
-        found = [it for it in topmost_first(types, parts_of) if it not in self.shown and it.name not in FAULT_TYPES.split()]
+        parts_of = lambda it: [] if it.seen or it.name in FAULT_TYPES else list(self.sources.types_in(it))
+        found = [it for it in topmost_first(types, parts_of) if it not in self.shown and it.name not in FAULT_TYPES]
         self.shown += found
         return found
 

@@ -257,14 +257,15 @@ def page_of(checks: Tally, name: str, text: str, *words: object) -> pathlib.Path
 
 def look_at_all(browser: Browser, words: argparse.Namespace, checks: Tally) -> None:
     picture = words.picture or checks.room / "page.png"
+    errors = ["--errors", words.errors.resolve()] if words.errors else []
     for given in words.listings:
-        page = page_of(checks, "text", given.read_text(), *(["--errors", words.errors.resolve()] if words.errors else []))
+        page = page_of(checks, "text", given.read_text(), *errors)
         look(browser, page.as_uri(), picture, checks)
     if words.listings:
         return
     outcome = run_folder(written(checks.room / "set", HOSTILE_FILES), Options())
-    errors = checks.text("errors", outcome.err)
-    page = page_of(checks, "text", outcome.out, "--name", "a made-up set", "--errors", errors)
+    said = checks.text("errors", outcome.err)
+    page = page_of(checks, "text", outcome.out, "--name", "a made-up set", "--errors", said)
     look(browser, page.as_uri(), picture, checks)
     other = outcome.out
     for word, changed in OTHERS.items():

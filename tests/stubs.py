@@ -123,9 +123,10 @@ def fault_of(trial, folder):
 def main():
     words = sys.argv[1:]
     with Tally() as checks, concurrent.futures.ThreadPoolExecutor(len(os.sched_getaffinity(0))) as pool:
-        made = [it for it in trials(checks.room) if not words or any(word in it.name for word in words)]
+        room = checks.room
+        made = [it for it in trials(room) if not words or any(word in it.name for word in words)]
         kinds = {str(it.files): it.files for it in made}
-        copies = {kind: copy_with(files, checks.room / str(number)) for number, (kind, files) in enumerate(kinds.items())}
+        copies = {kind: copy_with(files, room / str(number)) for number, (kind, files) in enumerate(kinds.items())}
         faults = pool.map(fault_of, made, (copies[str(it.files)] for it in made))
         for trial, fault in zip(made, faults):
             checks.is_so(f"{trial.name}: {fault}", not fault)

@@ -64,8 +64,9 @@ def samples(room: pathlib.Path, folders: list, sets: int) -> Iterator[tuple[str,
 
 
 class Watched(RunNamespace):
-    """Keeps where the names of Scopes and the sources of Aliases led while the tables were loaded, what the names of code
-    outside methods meant, and the paths of which an External says that they are methods. Without that code all is sure."""
+    """Keeps where the names of Scopes and the sources of Aliases led while the tables were loaded, what the names of
+    code outside methods meant, and the paths of which an External says that they are methods. Without that code all is
+    sure."""
 
     def __init__(self, any_run: bool) -> None:
         super().__init__()

@@ -18,7 +18,7 @@ MOST_SYNC_LEVEL = 15
 
 # The mnemonics that ASL has otherwise, and the names that are words of ASL.
 RENAMED = {"DataRegion": "DataTableRegion", "VarPackage": "Package"}
-RESERVED = set("CASE EDGE ELSE IPMI LAND LNOT LOAD LOCK NAME NAND NOOP ONES WAIT ZERO ARG0 ARG1 ARG2 ARG3 ARG4 ARG5 ARG6".split())
+TAKEN = set("CASE EDGE ELSE IPMI LAND LNOT LOAD LOCK NAME NAND NOOP ONES WAIT ZERO ARG0 ARG1 ARG2 ARG3 ARG4 ARG5 ARG6".split())
 FLAGS = {"Field": 1, "IndexField": 2, "BankField": 3}
 SIZED = ("Buffer", "Package", "VarPackage")
 # The operators that have to have a target.

@@ -46,7 +46,7 @@ def plain(name, tell):
     """A name, where ASL doesn't take it for a word of its own."""
     if not name:
         tell("an empty name")
-    if name in language.RESERVED:
+    if name in language.TAKEN:
         tell(f"the name {name}, which is a word of ASL")
     return name
 
