@@ -39,7 +39,7 @@ def regions_told(teller: Teller, has_raw: bool) -> list:
     for path in list(changed):
         kind = space.kind(tuple(path[1:].split("."))) if path and path != "\\" else None
         changed |= {path_text(kind[1])} if kind and kind[0] == "Alias" else set()
-    sure = {path for path, kind, *rest in space.rows() if kind[0] == "Name" and not (rest and rest[0])}
+    sure = {path for path, kind, marks in space.rows() if kind[0] == "Name" and not marks}
 
     def value(number: int | None, paths: list) -> int | None:
         if number is not None or has_raw or len(paths) != 1 or paths[0] not in sure or path_text(paths[0]) in changed:
@@ -51,13 +51,11 @@ def regions_told(teller: Teller, has_raw: bool) -> list:
 
 
 def names_told(teller: Teller) -> set:
-    rows = [(path, kind, marks) for path, kind, *rest in teller.space.rows() for marks in [rest[0] if rest else ()]]
     found = set()
-    for path, kind, marks in rows:
-        text = " ".join(marks)
-        times = int(text.partition("Times ")[2] or 1)
+    for path, kind, marks in teller.space.rows():
+        times = int(" ".join(marks).partition("Times ")[2] or 1)
         count = kind[1] if kind[0] == "Method" else None
-        found.add((path_text(path), kind[0], count, "maybe" if "Maybe" in text else "always", times))
+        found.add((path_text(path), kind[0], count, "maybe" if "Maybe" in marks else "always", times))
     return found
 
 

@@ -9,7 +9,7 @@ from any_run import RunNamespace, RunReader
 from compare import laid
 from dumps import aml_of, order_of
 from folders import read_folder
-from loading import Loaded, Namespace, path_text
+from loading import Loaded, path_text
 from made_aml import SETS, table, tables
 from made_sets import SetMaker
 from reading import ALIAS, ELSE, EXTERNAL, FIELD_LISTS, IF, METHOD, ROWS, SCOPE, SCOPES
@@ -120,7 +120,7 @@ def names_in(term: object) -> list[Name]:
     return [name for part in (*term.parts, *elements) for name in names_in(part)]
 
 
-def may_mean(space: Namespace, scope: Path, name: Name, own: dict) -> list[Path]:
+def may_mean(space: RunNamespace, scope: Path, name: Name, own: dict) -> list[Path]:
     """The paths that a name may mean, the nearest first, up to one that stands in every run (docs/names.md)."""
     found = []
     for path in name.candidates(scope):
