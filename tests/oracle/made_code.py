@@ -46,7 +46,14 @@ def package_length(content, least_width):
     return bytes([(width - 1) << 6 | value & 15]) + (value >> 4).to_bytes(width - 1, "little")
 
 
-class Maker:
+class Chancy:
+    """What makes things up by a chance."""
+
+    def happens(self, share):
+        return self.chance.random() < share
+
+
+class Maker(Chancy):
     """Makes the AML of one set.
 
     `known` are the paths that the set has so far, with how many arguments each takes; `methods` those that are called from the

@@ -32,9 +32,6 @@ class RunMaker(Maker):
         for path, count in self.given.items():
             self.space.give(path, count)
 
-    def happens(self, share):
-        return self.chance.random() < share
-
     def tables(self):
         codes = super().tables()
         if self.happens(0.04):

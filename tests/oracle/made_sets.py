@@ -5,7 +5,7 @@ from dataclasses import dataclass
 from dumps import FACS, LISTS, MOST_BYTES, RECORDS, ROOT
 from folders import MAP_NAME
 from loading import path_text
-from made_code import ARGUMENT_COUNTS, STRANGE_SEGMENTS, Maker, damaged
+from made_code import ARGUMENT_COUNTS, STRANGE_SEGMENTS, Chancy, Maker, damaged
 from made_runs import RunMaker
 from running import FLAGS, Options
 
@@ -93,7 +93,7 @@ def madt(chance):
     return table(chance, b"APIC", chance.randbytes(8) + records + broken)
 
 
-class SetMaker:
+class SetMaker(Chancy):
     """Makes one trial after another: of made-up tables, or of the known folders, given by the contents of their files.
     Where `gives` is set, most of them have a file for `--externals`; where `any_run` is, code outside methods and its option;
     where `is_deep` is, a third has its terms in a scope of 100 to 2,000 segments."""
@@ -101,9 +101,6 @@ class SetMaker:
     def __init__(self, chance, known=(), gives=False, any_run=False, is_deep=False):
         self.chance, self.known, self.gives, self.any_run, self.is_deep = chance, known, gives, any_run, is_deep
         self.given, self.paths = {}, []
-
-    def happens(self, share):
-        return self.chance.random() < share
 
     def trial(self):
         self.given, self.paths = {}, []

@@ -3,7 +3,7 @@
 import itertools
 from collections import namedtuple
 
-from made_code import package_length, shortest
+from made_code import Chancy, package_length, shortest
 from reading import Name
 
 # What a term has in front of its names and behind them, where it has no package length, and where it has one.
@@ -55,14 +55,11 @@ def text_of(terms):
     return "  ".join(map(str, terms))
 
 
-class TermMaker:
+class TermMaker(Chancy):
     """Makes tables of few paths. `paths` are those that the terms so far may declare."""
 
     def __init__(self, chance):
         self.chance, self.paths = chance, []
-
-    def happens(self, share):
-        return self.chance.random() < share
 
     def tables(self):
         """The terms of two tables, the second of which may be empty."""

@@ -38,9 +38,13 @@ class Layout:
     packages: list = field(default_factory=list)
 
 
+@dataclass
 class Surveying:
     """What a reader does that keeps in a `layout` where terms and packages stand. Its code is that of a table from the byte
     `base` on."""
+
+    layout: Layout = field(default_factory=Layout)
+    base: int = 0
 
     def survey(self):
         with contextlib.suppress(Refused):
@@ -64,14 +68,12 @@ class Surveying:
 
 @dataclass
 class Surveyor(Surveying, Reader):
-    layout: Layout = field(default_factory=Layout)
-    base: int = 0
+    """Of a table, or of a body."""
 
 
 @dataclass
 class RunSurveyor(Surveying, RunReader):
-    layout: Layout = field(default_factory=Layout)
-    base: int = 0
+    """Of a table whose terms may run."""
 
 
 @functools.lru_cache(maxsize=32)
