@@ -1,7 +1,5 @@
 -- Names that are kept one after the other are kept as all of them.
-use Rattle.aml_parse.proofs.Common.{◌≡◌, [], ◌∷◌, List, Option, None, Some, refl, ap, ◌∙◌, with_names, Seg, PathSet, sym}
-use Rattle.std.specs.FinSet as set
-use Rattle.std.specs.List.{fold, filter_map}
+use Rattle.aml_parse.proofs.Common.{◌≡◌, [], ◌∷◌, List, Option, None, Some, refl, ◌∙◌, with_names, Seg, PathSet}
 use Rattle.aml_code.specs.Lawful.{with_declared}
 use Rattle.aml_names.specs.declared.names.Name.{Name}
 use Rattle.aml_names.specs.Branches.{with_placed}

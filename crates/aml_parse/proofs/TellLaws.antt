@@ -1,30 +1,27 @@
 -- Telling one piece after the other.
 use Rattle.aml_parse.proofs.Common.{◌≡◌, ℕ, zero, suc, ◌-◌, ◌<◌, ◌==◌, Bool, true, false, List, [], ◌∷◌, ◌++◌, length, Option, Some, None}
 use Rattle.aml_parse.proofs.Common.{Result, Ok, Err, refl, sym, ap, subst, arith, Seg, Name, CodeFault, PathSet}
-use Rattle.aml_parse.proofs.Common.{name_at, byte_at, little_at, length_at, segment_at, is_name_lead, read_on, ◌>>=◌, ok_or, Row, Position, TailKind, PkgWidth, Arities}
+use Rattle.aml_parse.proofs.Common.{name_at, byte_at, length_at, segment_at, is_name_lead, read_on, ◌>>=◌, ok_or, Row, Position, TailKind, PkgWidth, Arities}
 use Rattle.aml_parse.proofs.Common.{Tree, nothing, named, op, Trees, no_trees, tree_more, Part, Parts, no_parts, part_more, Tail, empty}
 use Rattle.aml_parse.proofs.Common.{Field, no_fields, field_more, count_in, names_declared, with_declared, is_guard}
-use Rattle.aml_parse.proofs.Common.{terms_in, tail_in, span_at, Fails, inl, inr, ok_is, Link, target, buffer, drop, take, position}
+use Rattle.aml_parse.proofs.Common.{terms_in, tail_in, span_at, Fails, inl, inr, ok_is, Link, target, buffer}
 use Rattle.std.specs.Prelude.{flat_map}
 use Rattle.std.proofs.lemmas.List.{flat_map_more}
 use Rattle.aml_parse.specs.Reading.{opcode_at, refusal}
 use Rattle.aml_parse.proofs.Common.{row_opcode, takes, append-nil, append_assoc, ◌∙◌}
 use Rattle.aml_parse.specs.Reading.{Reader, arguments_at, parts_at, call_at, plain_at, packed_at, tail_at, guard_at, taken_at}
 use Rattle.aml_parse.specs.Reading.{operation_at, takes_names, is_absent_target, term_at, read_at}
-use Rattle.aml_code.specs.Pieces.{Told, name, end_of_call, opcode, end_of_parts, next, part, field, list, end_of_list, line, end_of_line, link, end_of_link}
+use Rattle.aml_code.specs.Pieces.{Told, name, end_of_call, opcode, end_of_parts, next, field, list, end_of_list, line, end_of_line, link, end_of_link}
 use Rattle.aml_code.specs.Pieces.{pieces, items, more_items, part_pieces, parts_pieces, more_parts, tail_pieces, line_pieces, fields_pieces, field_pieces}
 use Rattle.aml_code.specs.Pieces.{part_count, link_pieces}
 use Rattle.aml_code.specs.Tree.{tree_count}
 use Rattle.aml_code.specs.Opcodes.{row_of}
-use Rattle.aml_parse.specs.Telling.{Tells, TellsPart, IsPlain, IsLabel, separator}
-use Rattle.aml_parse.specs.Telling as telling
-use denote.Ref.{Bor}
-use Rattle.std.specs.Result.{IfOk}
+use Rattle.aml_parse.specs.Telling.{separator}
 use Rattle.aml_code.specs.Lawful.{last_label, unit_names, plain_name}
 use Rattle.aml_code.specs.Tree.{child, label, byte, word, dword, qword, text, unit, reserved, access, connection, extended}
 use Rattle.aml_code.proofs.Answered.{answered}
-use Rattle.std.specs.Prelude.{nat_lt, if◌then◌else◌}
-use Rattle.aml_parse.specs.Reading.{held, flat, count_part, text_part, segmented_at, link_at, field_at, reserved_unit, access_unit, extended_unit, named_unit}
+use Rattle.std.specs.Prelude.{if◌then◌else◌}
+use Rattle.aml_parse.specs.Reading.{held, segmented_at, link_at, field_at, reserved_unit, access_unit, extended_unit, named_unit}
 use Rattle.aml_parse.proofs.Loops.{onto, then_rest, then_all}
 
 -- ---- loops begin with nothing
@@ -283,20 +280,6 @@ units_one (connection l ∷ front) u = units_one front u
 units_one (extended a b c ∷ front) u = units_one front u
 
 -- ---- parts and elements without terms
-
--- a part that was told alone
-module _ {S : Type 0} (grew : S → S → List Told → Type 0) (old new : S) (level : ℕ) (ls : PathSet) (found : Option Name) where
-  pub plain_told : (result : Result (Bor (List ℕ)) CodeFault) (read : Result (Part × List ℕ) CodeFault)
-      → IfOk result (λ rest. TellsPart grew IsPlain old new rest.now read)
-      → IfOk result (λ rest. Tells grew (part_pieces level) (λ p. found ≡ last_label found (part_more p no_parts)) old new ls rest.now (flat ls read))
-  plain_told (Ok rest) read x = (x.0, (rw x.1.0 refl, (x.1.1.0.1 found, subst (grew old new) (sym (x.1.1.0.0 level)) x.1.1.1)))
-  plain_told (Err e) read x = x
-
-  pub label_told : (end : ℕ) (bytes : List ℕ) (result : Result (Bor (List ℕ)) CodeFault) (read : Result (Part × List ℕ) CodeFault)
-      → IfOk result (λ rest. TellsPart grew (IsLabel end bytes) old new rest.now read)
-      → IfOk result (λ rest. Tells grew (part_pieces level) (λ p. telling.name_read (name_at end bytes) ≡ last_label found (part_more p no_parts)) old new ls rest.now (flat ls read))
-  label_told end bytes (Ok rest) read x = (x.0, (rw x.1.0 refl, (x.1.1.0.1 found, subst (grew old new) (sym (x.1.1.0.0 level)) x.1.1.1)))
-  label_told end bytes (Err e) read x = x
 
 abbrev pub IsFlatField : ℕ → Field → Type 0
 IsFlatField level u = field_pieces level u ≡ field u ∷ []

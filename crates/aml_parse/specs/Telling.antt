@@ -5,12 +5,13 @@ use Rattle.aml_names.specs.declared.names.Name.{Name}
 use Rattle.aml_names.specs.declared.segments.Seg.{Seg}
 use Rattle.aml_names.specs.NameReading.{name_at}
 use Rattle.aml_names.specs.Paths.{PathSet}
+use Rattle.aml_code.specs.declared.rows.PartKind.{PartKind}
 use Rattle.aml_code.specs.declared.rows.Position.{Position}
 use Rattle.aml_code.specs.Faults.{Arities}
 use Rattle.aml_code.specs.Lawful.{last_label, plain_name, field_names}
 use Rattle.aml_code.specs.Pieces.{Told, next, part, pieces, part_pieces}
 use Rattle.aml_code.specs.Tree.{Tree, Tail, Part, part_more, no_parts}
-use Rattle.aml_parse.specs.Reading.{Reader, read_at}
+use Rattle.aml_parse.specs.Reading.{Reader, read_at, part_at}
 use Rattle.aml_parse.specs.declared.parser.Parser.{Parser}
 use denote.Ref.{Bor}
 
@@ -64,6 +65,22 @@ IsPlain p = IsOne p × ((found : Option Name) → found ≡ last_label found (pa
 abbrev pub IsLabel : ℕ → List ℕ → Part → Type 0
 IsLabel end bytes p =
     IsOne p × ((found : Option Name) → name_read (name_at end bytes) ≡ last_label found (part_more p no_parts))
+
+-- the kinds of parts that hold no terms
+abbrev pub is_flat : PartKind → Bool
+is_flat PartKind.Term = false
+is_flat PartKind.Target = false
+is_flat PartKind.Data = false
+is_flat _ = true
+
+-- a part of such a kind was told by its bytes alone: whoever reads it reads it so, and it declares nothing. The names are
+-- the last one before it and behind it.
+abbrev pub TellsFlat : {S : Type 0} → (S → S → List Told → Type 0) → PartKind → ℕ → Option Name → Option Name → S → S → List ℕ
+    → List ℕ → Type 0
+TellsFlat grew kind end before after old new bytes rest =
+    (read : Position → Reader Tree) (level : ℕ) (ls : PathSet)
+    → Tells grew (part_pieces level) (λ p. after ≡ last_label before (part_more p no_parts)) old new ls rest
+    (part_at read kind end ls bytes)
 
 -- a term was told by its bytes alone: whoever reads it with so many levels reads it so, and it declares nothing
 abbrev pub TellsShort : {S : Type 0} → (S → S → List Told → Type 0) → Position → ℕ → ℕ → ℕ → S → S → List ℕ → List ℕ → Type 0

@@ -1,15 +1,17 @@
 //! Parts that hold no terms, told as they are read.
 #![tactic(auto, unfolding(crate::specs::Reading::count_part, crate::specs::Reading::segmented_at))]
 
-ghost use Rattle.std.specs.Prelude.{◌≡◌, IfOk, IfErr};
+ghost use Rattle.std.specs.Prelude.{◌≡◌, true, IfOk, IfErr};
 ghost use Rattle.aml_names.specs.NameReading.{Fails, name_at};
+ghost use Rattle.aml_names.specs.Paths.{PathSet};
 ghost use Rattle.aml_code.specs.Packages.{little_at};
-ghost use Rattle.aml_code.specs.Tree.{label, byte, word, dword, qword};
-ghost use Rattle.aml_parse.specs.Reading.{held, count_part, text_part, segmented_at};
-ghost use Rattle.aml_parse.specs.Telling.{TellsPart, IsLabel, IsPlain};
+ghost use Rattle.aml_code.specs.Tree.{Tree, label, byte, word, dword, qword};
+ghost use Rattle.aml_code.specs.declared.rows.Position.{Position};
+ghost use Rattle.aml_parse.specs.Reading.{Reader, held, count_part, text_part, segmented_at, part_at};
+ghost use Rattle.aml_parse.specs.Telling.{TellsPart, TellsFlat, IsLabel, IsPlain, is_flat, label_at};
 
 use crate::flat::{MOST_ARGUMENTS, one_of, segmented_of, text_of};
-use aml_code::{CodeFault, Piece, Sink, little_of, offset_of};
+use aml_code::{CodeFault, PartKind, Piece, Sink, little_of, offset_of};
 use aml_names::name_of;
 use std::alloc::Global;
 
@@ -139,4 +141,40 @@ pub fn tell_name<'b, S: Sink>(
     let (name, rest) = segmented_of(alloc, end, bytes)?;
     sink.tell(Piece::Label(&name))?;
     Ok(rest)
+}
+
+/// A part of a kind that holds no terms. Where it is a name, it is kept where it begins. It stays out of the frame of
+/// the reader of terms, which are most parts.
+#[inline(never)]
+pub fn tell_flat<'b, S: Sink>(
+    kind: PartKind,
+    alloc: Global,
+    end: u32,
+    label: &mut Option<&'b [u8]>,
+    sink: &mut S,
+    bytes: &'b [u8],
+) -> Result<&'b [u8], CodeFault>
+    requires { is_flat kind ≡ true }
+    ensures told { IfOk result (λ rest. TellsFlat S.grew kind end (label_at end label.old) (label_at end label.new)
+        sink.old sink.new bytes.now rest.now) }
+    ensures fails { IfErr result (λ e. (read : Position → Reader Tree) (ls : PathSet) →
+        Fails e (part_at read kind end ls bytes.now)) }
+{
+    match kind {
+        PartKind::Name => {
+            *label = Some(bytes);
+            Ok(tell_name(alloc, end, sink, bytes)?)
+        }
+        PartKind::ScopeName => {
+            *label = Some(bytes);
+            Ok(tell_any_name(alloc, end, sink, bytes)?)
+        }
+        PartKind::Byte => Ok(tell_byte(end, sink, bytes)?),
+        PartKind::Count => Ok(tell_count(end, sink, bytes)?),
+        PartKind::Word => Ok(tell_word(end, sink, bytes)?),
+        PartKind::Dword => Ok(tell_dword(end, sink, bytes)?),
+        PartKind::Qword => Ok(tell_qword(end, sink, bytes)?),
+        PartKind::Text => Ok(tell_text(end, sink, bytes)?),
+        PartKind::Term | PartKind::Target | PartKind::Data => unreachable!(),
+    }
 }

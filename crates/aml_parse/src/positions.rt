@@ -84,7 +84,7 @@ pub fn row_of(
 }
 
 /// Whether a target is absent: its place holds the byte 00.
-fn is_absent_target(position: Position, lead: u8) -> bool
+pub fn is_absent_target(position: Position, lead: u8) -> bool
     ensures { result ≡ is_absent_target position lead }
 {
     position == Position::Target && lead == 0x00
@@ -99,10 +99,16 @@ pub enum Lead {
     Opcode,
 }
 
+/// The last byte that begins a name, `_`. Most opcodes are behind it.
+const LAST_NAME_LEAD: u8 = 0x5F;
+
 /// What the first byte of a term begins in its position.
 pub fn lead_of(position: Position, lead: u8) -> Lead
     ensures { Begins result position lead }
 {
+    if lead > LAST_NAME_LEAD {
+        return Lead::Opcode;
+    }
     if is_name_lead(lead) {
         return Lead::Name;
     }

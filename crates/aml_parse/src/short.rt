@@ -6,9 +6,9 @@ ghost use Rattle.aml_code.specs.Tree.{op, byte, no_parts, part_more, empty};
 ghost use Rattle.aml_parse.specs.Telling.{TellsShort};
 
 use crate::flat::one_of;
-use crate::positions::{Lead, lead_of, row_of};
+use crate::positions::{is_absent_target, row_of};
 use crate::tell::Here;
-use aml_code::{NoMemory, OpRow, PartKind, Piece, Role, Sink, byte_of};
+use aml_code::{NoMemory, OpRow, PartKind, Piece, Role, Sink};
 
 /// Whether nothing stands behind an opcode of this row, and it declares nothing.
 fn is_bare(row: &OpRow) -> bool
@@ -68,7 +68,11 @@ pub fn tell_short<'b, S: Sink>(
     ensures none { IfOk result (λ found. IfNone found (sink.new ≡ sink.old)) }
 {
     match bytes {
-        // A constant, a Local or an Arg, or the 00 of an absent target.
+        [lead, rest @ ..] if here.levels > 0 && is_absent_target(here.position, *lead) => {
+            sink.tell(Piece::Absent)?;
+            Ok(Some(rest))
+        }
+        // A constant, a Local or an Arg.
         [0x00 | 0x01 | 0x0A | 0x60..=0x6E | 0xFF, ..] if here.levels > 0 => tell_shortly(
             here, end, sink, bytes,
         ),
@@ -89,31 +93,19 @@ fn tell_shortly<'b, S: Sink>(
         end sink.old sink.new bytes.now rest.now)) }
     ensures none { IfOk result (λ found. IfNone found (sink.new ≡ sink.old)) }
 {
-    let Ok((lead, rest)) = byte_of(end, bytes) else {
+    let Ok((row, behind)) = row_of(here.position, end, bytes) else {
         return Ok(None);
     };
-    match lead_of(here.position, lead) {
-        Lead::Name => Ok(None),
-        Lead::Nothing => {
-            sink.tell(Piece::Absent)?;
-            Ok(Some(rest))
-        }
-        Lead::Opcode => {
-            let Ok((row, behind)) = row_of(here.position, end, bytes) else {
-                return Ok(None);
-            };
-            if is_bare(row) {
-                tell_bare(row, sink)?;
-                return Ok(Some(behind));
-            }
-            if !has_byte(row) {
-                return Ok(None);
-            }
-            let Ok((value, after)) = one_of(end, behind) else {
-                return Ok(None);
-            };
-            tell_with_byte(row, value, sink)?;
-            Ok(Some(after))
-        }
+    if is_bare(row) {
+        tell_bare(row, sink)?;
+        return Ok(Some(behind));
     }
+    if !has_byte(row) {
+        return Ok(None);
+    }
+    let Ok((value, after)) = one_of(end, behind) else {
+        return Ok(None);
+    };
+    tell_with_byte(row, value, sink)?;
+    Ok(Some(after))
 }

@@ -16,9 +16,7 @@ ghost use Rattle.aml_parse.specs.Telling.{read_by, Tells, TellsAll, AreUnits, se
 
 use crate::packages::package_of;
 use crate::parser::Parser;
-use crate::plain::{
-    tell_any_name, tell_byte, tell_count, tell_dword, tell_name, tell_qword, tell_text, tell_word,
-};
+use crate::plain::tell_flat;
 use crate::positions::{Lead, guard_of, is_guard, lead_of, row_of, tail_in, takes_names, terms_in};
 use crate::short::tell_short;
 use crate::units::{
@@ -412,20 +410,7 @@ impl<'a, N: Names> Parser<'a, N> {
                 sink,
                 bytes,
             ),
-            PartKind::Name => {
-                *label = Some(bytes);
-                Ok(tell_name(self.alloc, end, sink, bytes)?)
-            }
-            PartKind::ScopeName => {
-                *label = Some(bytes);
-                Ok(tell_any_name(self.alloc, end, sink, bytes)?)
-            }
-            PartKind::Byte => Ok(tell_byte(end, sink, bytes)?),
-            PartKind::Count => Ok(tell_count(end, sink, bytes)?),
-            PartKind::Word => Ok(tell_word(end, sink, bytes)?),
-            PartKind::Dword => Ok(tell_dword(end, sink, bytes)?),
-            PartKind::Qword => Ok(tell_qword(end, sink, bytes)?),
-            PartKind::Text => Ok(tell_text(end, sink, bytes)?),
+            _ => Ok(tell_flat(kind, self.alloc, end, label, sink, bytes)?),
         }
     }
 

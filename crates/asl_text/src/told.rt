@@ -35,7 +35,7 @@ fn print_opened<W: Write>(out: &mut Out<'_, W>, count: usize)
     ensures { Prints W.contents out.old out.new (opened count) }
 {
     if count != 0 {
-        out.put(b" (");
+        out.put_two(b' ', b'(');
     }
 }
 
@@ -127,7 +127,7 @@ fn print_piece<W: Write>(out: &mut Out<'_, W>, piece: Piece<'_>)
         Piece::EndOfCall(count) => print_call_end(out, count),
         Piece::Opcode(row, _) => print_row_opening(out, row),
         Piece::EndOfParts(row) => print_row_closing(out, row),
-        Piece::Next => out.put(b", "),
+        Piece::Next => out.put_two(b',', b' '),
         Piece::Label(name) => print_name(out, name),
         Piece::Byte(n) => print_byte(out, n),
         Piece::Word(n) => print_word(out, n),

@@ -108,7 +108,7 @@ impl<'w, W: Write> Out<'w, W> {
 
     /// Prints two bytes.
     #[inline(always)]
-    pub(crate) fn put_two(&mut self, first: u8, second: u8)
+    pub fn put_two(&mut self, first: u8, second: u8)
         ensures { Prints W.contents self.old self.new (first ∷ second ∷ []) }
     {
         if 2 <= self.room() {

@@ -2,24 +2,24 @@ use Rattle.aml_parse.proofs.Common.{rules, PartKind, TailKind, ◌≡◌, ◌+�
 use Rattle.aml_parse.proofs.Common.{ap, sym, subst, refl, ◌∙◌, arith, add-one, drop-cons, drop_all, Tree, Part, Field}
 use Rattle.aml_parse.proofs.Common.{row_view, no_trees, tree_more, no_parts, part_more, no_fields, field_more, nothing, named, op, empty}
 use Rattle.aml_parse.proofs.Common.{terms, elements, fields, child, connection, buffer, append-nil, length-append}
-use Rattle.aml_code.specs.Tree.{bytes, body, label, byte, word, dword, qword}
+use Rattle.aml_code.specs.Tree.{bytes}
 use Rattle.aml_code.proofs.Views.{view-field-Connection}
 use Rattle.std.specs.Prelude.{map}
 use Rattle.aml_code.specs.Lawful.{last_label, plain_name, unit_names}
-use Rattle.aml_code.specs.Pieces.{Told, deeper, pieces, items, field_pieces, line_pieces, fields_pieces, part_pieces}
-use Rattle.aml_parse.specs.Reading.{field_at, segmented_at, body_to, part_at, held, text_part, count_part, flat}
-use Rattle.aml_parse.specs.Telling.{read_by, label_at}
+use Rattle.aml_code.specs.Pieces.{Told, deeper, pieces, items, field_pieces, line_pieces, fields_pieces}
+use Rattle.aml_parse.specs.Reading.{field_at, body_to}
+use Rattle.aml_parse.specs.Telling.{read_by}
 use Rattle.aml_parse.proofs.Common.{Position}
 use Rattle.aml_parse.proofs.Opened.{opcode_read}
 use Rattle.aml_parse.proofs.Loops.{onto, parts_go_on, parts_fails, parts_end, arguments_go_on, arguments_fails, arguments_end}
 use Rattle.aml_parse.proofs.Loops.{go_on, fails, runs_out, done}
-use Rattle.aml_parse.proofs.TellLaws.{rest_none, all_none, trees_of, parts_of, is_none, some_now, trees_counted, parts_counted, in_line, lines_told}
+use Rattle.aml_parse.proofs.TellLaws.{rest_none, all_none, trees_of, parts_of, some_now, trees_counted, parts_counted, in_line, lines_told}
 use Rattle.aml_parse.proofs.TellLaws.{fields_told, grew_one, told_line, told_item, told_part, told_call, told_op, told_list, told_link}
-use Rattle.aml_parse.proofs.TellLaws.{label_one, units_one, plain_told, label_told, taken_listed, IsOneField}
+use Rattle.aml_parse.proofs.TellLaws.{label_one, units_one, taken_listed, IsOneField}
 use Rattle.aml_parse.proofs.TellLaws.{call_is, plain_is, packed_is, no_lead, name_read, nothing_read, opcode_stops}
 use Rattle.aml_parse.proofs.TellLaws.{reserved_read, access_read, extended_read, named_read, link_name, link_buffer, connection_read}
 use Rattle.aml_parse.proofs.ShortLaws.{none_read}
-use Rattle.aml_parse.proofs.Common.{name_at, little_at, field_view, tail_in}
+use Rattle.aml_parse.proofs.Common.{field_view, tail_in}
 use Rattle.aml_code.specs.View.{link_view}
 use Rattle.aml_parse.proofs.parser.Parser.+telling.Goals as goal
 use Rattle.aml_parse.proofs.parser.Parser.+telling.Goals.{tell_field-in-0+in_ok-reserved_unit_of-in-0}
@@ -385,40 +385,6 @@ tell_link-returns-clause-told g t c =
         (tt, told_link _ g.met.S.Sink.further c.args.here.level _ _ _ _ told.0 c.in_ok-tell-2.ensures told.1.1.1 c.in_ok-tell-3.ensures),
       ),
     )
-
--- ---- parts that hold no terms
-
-pub tell_part-returns-in_ok-tell_byte-in-Byte-clause-told : goal.tell_part-returns-in_ok-tell_byte-in-Byte-clause-told
-tell_part-returns-in_ok-tell_byte-in-Byte-clause-told g t c =
-    rw c.in-Byte.is (plain_told g.S.Sink.grew _ _ c.args.here.level (g.N.Names.paths c.args.self.now.names.now c.args.locals.now) (label_at c.args.end c.args.label.now) (Ok c.in_ok-tell_byte-in-Byte.field-0) (held byte (little_at 1 c.args.end c.args.bytes.now)) c.in_ok-tell_byte-in-Byte.ensures.told)
-
-pub tell_part-returns-in_ok-tell_count-in-Count-clause-told : goal.tell_part-returns-in_ok-tell_count-in-Count-clause-told
-tell_part-returns-in_ok-tell_count-in-Count-clause-told g t c =
-    rw c.in-Count.is (plain_told g.S.Sink.grew _ _ c.args.here.level (g.N.Names.paths c.args.self.now.names.now c.args.locals.now) (label_at c.args.end c.args.label.now) (Ok c.in_ok-tell_count-in-Count.field-0) (count_part c.args.end c.args.bytes.now) c.in_ok-tell_count-in-Count.ensures.told)
-
-pub tell_part-returns-in_ok-tell_word-in-Word-clause-told : goal.tell_part-returns-in_ok-tell_word-in-Word-clause-told
-tell_part-returns-in_ok-tell_word-in-Word-clause-told g t c =
-    rw c.in-Word.is (plain_told g.S.Sink.grew _ _ c.args.here.level (g.N.Names.paths c.args.self.now.names.now c.args.locals.now) (label_at c.args.end c.args.label.now) (Ok c.in_ok-tell_word-in-Word.field-0) (held word (little_at 2 c.args.end c.args.bytes.now)) c.in_ok-tell_word-in-Word.ensures.told)
-
-pub tell_part-returns-in_ok-tell_dword-in-Dword-clause-told : goal.tell_part-returns-in_ok-tell_dword-in-Dword-clause-told
-tell_part-returns-in_ok-tell_dword-in-Dword-clause-told g t c =
-    rw c.in-Dword.is (plain_told g.S.Sink.grew _ _ c.args.here.level (g.N.Names.paths c.args.self.now.names.now c.args.locals.now) (label_at c.args.end c.args.label.now) (Ok c.in_ok-tell_dword-in-Dword.field-0) (held dword (little_at 4 c.args.end c.args.bytes.now)) c.in_ok-tell_dword-in-Dword.ensures.told)
-
-pub tell_part-returns-in_ok-tell_qword-in-Qword-clause-told : goal.tell_part-returns-in_ok-tell_qword-in-Qword-clause-told
-tell_part-returns-in_ok-tell_qword-in-Qword-clause-told g t c =
-    rw c.in-Qword.is (plain_told g.S.Sink.grew _ _ c.args.here.level (g.N.Names.paths c.args.self.now.names.now c.args.locals.now) (label_at c.args.end c.args.label.now) (Ok c.in_ok-tell_qword-in-Qword.field-0) (held qword (little_at 8 c.args.end c.args.bytes.now)) c.in_ok-tell_qword-in-Qword.ensures.told)
-
-pub tell_part-returns-in_ok-tell_text-in-Text-clause-told : goal.tell_part-returns-in_ok-tell_text-in-Text-clause-told
-tell_part-returns-in_ok-tell_text-in-Text-clause-told g t c =
-    rw c.in-Text.is (plain_told g.S.Sink.grew _ _ c.args.here.level (g.N.Names.paths c.args.self.now.names.now c.args.locals.now) (label_at c.args.end c.args.label.now) (Ok c.in_ok-tell_text-in-Text.field-0) (text_part c.args.end c.args.bytes.now) c.in_ok-tell_text-in-Text.ensures.told)
-
-pub tell_part-returns-in_ok-tell_name-in-Name-clause-told : goal.tell_part-returns-in_ok-tell_name-in-Name-clause-told
-tell_part-returns-in_ok-tell_name-in-Name-clause-told g t c =
-    rw c.in-Name.is (label_told g.S.Sink.grew _ _ c.args.here.level (g.N.Names.paths c.args.self.now.names.now c.args.locals.now) (label_at c.args.end c.args.label.now) c.args.end c.args.bytes.now (Ok c.in_ok-tell_name-in-Name.field-0) (held label (segmented_at c.args.end c.args.bytes.now)) c.in_ok-tell_name-in-Name.ensures.told)
-
-pub tell_part-returns-in_ok-tell_any_name-in-ScopeName-clause-told : goal.tell_part-returns-in_ok-tell_any_name-in-ScopeName-clause-told
-tell_part-returns-in_ok-tell_any_name-in-ScopeName-clause-told g t c =
-    rw c.in-ScopeName.is (label_told g.S.Sink.grew _ _ c.args.here.level (g.N.Names.paths c.args.self.now.names.now c.args.locals.now) (label_at c.args.end c.args.label.now) c.args.end c.args.bytes.now (Ok c.in_ok-tell_any_name-in-ScopeName.field-0) (held label (name_at c.args.end c.args.bytes.now)) c.in_ok-tell_any_name-in-ScopeName.ensures.told)
 
 -- ---- tails
 

@@ -1,5 +1,5 @@
 use Rattle.aml_parse.proofs.Common.{◌≡◌, ◌+◌, ◌-◌, ◌*◌, None, List, length, drop, tree_more, part_more, field_more, Tree, Part, Field}
-use Rattle.aml_parse.proofs.Common.{no_parts, no_fields, unit_names}
+use Rattle.aml_parse.proofs.Common.{no_fields, unit_names}
 use Rattle.std.specs.Prelude.{map, flat_map}
 use Rattle.aml_code.specs.Lawful.{last_label, plain_name}
 use Rattle.aml_parse.specs.Reading.{parts_at, arguments_at, terms_at, fields_at}
