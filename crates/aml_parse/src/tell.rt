@@ -599,7 +599,8 @@ impl<'a, N: Names> Parser<'a, N> {
     }
 
     /// The elements of a field list, to the end of the span, a line each. As many turns as there are bytes are enough.
-    /// Answers the segments of the named units.
+    /// Answers the segments of the named units. It has a frame of its own, of which levels of terms take nothing.
+    #[inline(never)]
     #[cycle(telling)]
     fn tell_fields<S: Sink>(
         &self,
