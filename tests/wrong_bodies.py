@@ -329,7 +329,7 @@ def unread_in(room, batch, printed):
 # What an answer is refused with that was tried at its goal. All else that is said of an answer, as that a name is not in scope
 # or that a value has no such field, says that it wasn't.
 TRIED = re.compile(
-    r"the two types|expected type|expected .*, but|no occurrence|no proof of|did not|does not|found no|list the missing equation|components but its type"
+    r"the two (?:types|values)|expected type|expected .*, but|no occurrence|no proof of|did not|does not|found no|list the missing equation|components but its type"
 )
 STALE = re.compile(r"has no (?:field|`)|not in scope|not admitted|is no name|cannot be named|unknown (?:name|module|field)|ambiguous|no module")
 

@@ -9,7 +9,7 @@ pub use Rattle.acpidis.specs.Checks.{mark_of, marks_of, IsKept, AreKept, AreKept
 pub use Rattle.acpidis.specs.Checks.{tried_marks, marks_in, IsUnder, Under, added}
 pub use Rattle.acpidis.specs.Checks.{uncounted, tally, tallied, checks_with, check_lines, all_same, same_bytes}
 pub use Rattle.acpidis.specs.Checks.{body_same, check_line}
-pub use Rattle.acpidis.specs.Meaning.{Meaning, LoadsBy, LoadsSet, HoldsSet, HasTables, Means, IsSet, codes_of, Shows}
+pub use Rattle.acpidis.specs.Meaning.{Meaning, LoadsBy, LoadsSet, HoldsSet, HasTables, HasTablesBy, Means, IsSet, IsSetBy, codes_of, Shows}
 pub use Rattle.acpidis.specs.Meaning.{order_of}
 pub use Rattle.acpidis.specs.declared.checking.Checked.{Checked}
 pub use Rattle.acpidis.specs.declared.checking.Mark.{Mark}
@@ -21,7 +21,7 @@ pub use Rattle.aml_set.specs.Code.{AreShort}
 pub use Rattle.aml_set.specs.Methods.{Method, method_in, methods_in, span_of}
 pub use Rattle.aml_set.specs.Views.{codes_view, body_in, methods_of_set, trees_view, body_of, table_codes, table_dumps}
 pub use Rattle.aml_set.specs.Views.{table_terms, body_in_set, IsListed}
-pub use Rattle.aml_load.specs.Views.{HoldsLoad, HoldsTables}
+pub use Rattle.aml_load.specs.Views.{HoldsBy, HoldsLoad, HoldsTables}
 pub use Rattle.aml_set.specs.declared.loaded.Loaded.{Loaded}
 pub use Rattle.aml_set.specs.declared.tables.Table.{Table}
 pub use Rattle.aml_set.specs.declared.tables.TableSet.{TableSet}

@@ -5,6 +5,7 @@ pub mod BodyLaws
 pub mod Spelling
 pub mod MeaningLaws
 pub mod RunLaws
+pub mod ToldLaws
 pub mod CheckLaws
 pub mod SameLaws
 pub mod Taking

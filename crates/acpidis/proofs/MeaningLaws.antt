@@ -2,11 +2,15 @@
 -- were read it is what they mean, and whatever they mean is that. What a refused load tells is told of the one order.
 use Rattle.acpidis.proofs.Common.{AllZip, ◌≡◌, ◌≤◌, ℕ, List, [], ◌∷◌, map, length, drop, get_or, refl, sym, ap, ap₂}
 use Rattle.acpidis.proofs.Common.{◌∙◌, Trees, Entry}
-use Rattle.acpidis.proofs.Common.{LoadsBy, methods_in, methods_of, HoldsTables, Loaded, TableSet, table_dumps, IsListed, Dump}
+use Rattle.acpidis.proofs.Common.{LoadsBy, methods_in, methods_of, HoldsBy, Loaded, TableSet, table_dumps, IsListed, Dump}
 use Rattle.acpidis.proofs.Common.{Order, IsOrder, Body, indexes_in, Options, codes_in}
 use Rattle.acpidis.proofs.Common.{Reading, entry_of, AreReadings}
-use Rattle.acpidis.proofs.Common.{Became, AreBodies, Meaning, LoadsSet, HoldsSet, HasTables, Means, IsSet, codes_of}
-use Rattle.std.proofs.Common.{◌⊎◌, inl, inr}
+use Rattle.acpidis.proofs.Common.{Became, AreBodies, Meaning, LoadsSet, HoldsSet, HasTables, HasTablesBy, Means, IsSetBy, codes_of}
+use Rattle.std.proofs.Common.{◌⊎◌, ◌&&◌, false, inl, inr, subst}
+use Rattle.acpidis.specs.Meaning.{LoadsNames}
+use Rattle.aml_load.proofs.Loads.{loads_one_way}
+use Rattle.aml_load.specs.Loading.{LoadsTo}
+use Rattle.aml_load.specs.Views.{HoldsNames}
 use Rattle.acpidis.specs.declared.refusal.Refusal.{Refusal}
 use Rattle.acpidis.specs.Meaning.{none_unknown}
 use Rattle.acpidis.specs.Refusals.{IsWant, StopsBy, TellsLoad, TellsBlocks, load_refusal}
@@ -57,11 +61,11 @@ module _ (dumps : List Dump) (options : Options) (order : Order) (codes : List (
   none_meant e (inl want) = inl want
   none_meant e (inr none) = inr (λ k set. let all = all_codes k set in none k.trees k.entries (rw all set.loads))
 
-  module _ (x : TableSet) (named : table_dumps x.tables.items ≡ indexes_in order)
-      (loads : (trees : List Trees) × (es : List Entry) × LoadsBy options codes trees es × HoldsTables x codes trees es)
-      (one : (trees : List Trees) (es : List Entry) → LoadsBy options codes trees es → HoldsTables x codes trees es) where
+  module _ (x : TableSet) (own : List Trees) (named : table_dumps x.tables.items ≡ indexes_in order)
+      (loads : (trees : List Trees) × (es : List Entry) × LoadsBy options codes trees es × HoldsBy x own codes trees es)
+      (one : (trees : List Trees) (es : List Entry) → LoadsBy options codes trees es → HoldsBy x own codes trees es) where
     -- the dumps have the order and load to what was loaded
-    abbrev loads_so : (k : Meaning) × LoadsSet dumps options k × HasTables x dumps k
+    abbrev loads_so : (k : Meaning) × LoadsSet dumps options k × HasTablesBy x own dumps k
     loads_so = (
       record { dsdt = order.dsdt; ssdts = order.ssdts.items; trees = loads.0; entries = loads.1; bodies = [] },
       record { order = there; loads = rw (← cs) loads.2 },
@@ -69,7 +73,7 @@ module _ (dumps : List Dump) (options : Options) (order : Order) (codes : List (
     )
 
     -- and to nothing else
-    loads_only : (k : Meaning) → LoadsSet dumps options k → HasTables x dumps k
+    loads_only : (k : Meaning) → LoadsSet dumps options k → HasTablesBy x own dumps k
     loads_only k set =
         let same = only k.dsdt k.ssdts set.order in
         let all = all_codes k set in record {
@@ -77,15 +81,51 @@ module _ (dumps : List Dump) (options : Options) (order : Order) (codes : List (
           holds = rw (← all) (one k.trees k.entries (rw all set.loads));
         }
 
-    pub set_so : length x.methods.items ≤ 1048576 → IsSet dumps options x
+    pub set_so : length x.methods.items ≤ 1048576 → IsSetBy dumps options x own
     set_so few = record { sound = loads_so; one = loads_only; few = few }
+
+-- ---- tables that keep no terms: what they load to goes by the one load of their AML
+
+module _ (options : Options) (codes : List (List ℕ)) (strict : options.any_run ≡ false) where
+  strictly : (trees : List Trees) (es : List Entry) → LoadsTo false false options.externals.items codes trees es
+      → LoadsBy options codes trees es
+  strictly trees es =
+      subst (λ (b : Bool). LoadsTo b (b && options.unknown_zero) options.externals.items codes trees es) (sym strict)
+
+  pub not_strictly : (trees : List Trees) (es : List Entry) → LoadsBy options codes trees es
+      → LoadsTo false false options.externals.items codes trees es
+  not_strictly trees es =
+      subst (λ (b : Bool). LoadsTo b (b && options.unknown_zero) options.externals.items codes trees es) strict
+
+  pub names_so : (x : TableSet)
+      → (trees : List Trees) × (es : List Entry) × LoadsTo false false options.externals.items codes trees es × HoldsNames x codes es
+      → ((trees : List Trees) (es : List Entry) → LoadsTo false false options.externals.items codes trees es → HoldsNames x codes es)
+      → LoadsNames options codes x
+  names_so x sound one = (
+    sound.0,
+    (
+      sound.0,
+      sound.1,
+      strictly sound.0 sound.1 sound.2,
+      record { tables = sound.3.tables; trees = refl; space = sound.3.space; methods = sound.3.methods },
+    ),
+    λ trees es h.
+        let loads = not_strictly trees es h in
+        let names = one trees es loads in record {
+          tables = names.tables;
+          trees = (loads_one_way false false options.externals.items codes sound.0 trees sound.1 es sound.2 loads).0;
+          space = names.space;
+          methods = names.methods;
+        },
+  )
 
 -- ---- a loaded set with the bodies that were read
 
-module _ (dumps : List Dump) (options : Options) (x : TableSet) (rs : List Reading) (are : AreReadings options.unknown_zero x rs) where
+module _ (dumps : List Dump) (options : Options) (x : TableSet) (own : List Trees) (rs : List Reading)
+    (are : AreReadings options.unknown_zero x rs) where
   -- the dumps mean it
-  pub means_so : (k : Meaning) × LoadsSet dumps options k × HasTables x dumps k
-      → (k : Meaning) × Means dumps options k × HasTables x dumps k × (map entry_of rs ≡ k.bodies)
+  pub means_so : (k : Meaning) × LoadsSet dumps options k × HasTablesBy x own dumps k
+      → (k : Meaning) × Means dumps options k × HasTablesBy x own dumps k × (map entry_of rs ≡ k.bodies)
   means_so h =
       let k = h.0 in
       let here = are_entries options.unknown_zero x k.entries h.2.holds.space x.methods.items rs are in (
@@ -96,7 +136,7 @@ module _ (dumps : List Dump) (options : Options) (x : TableSet) (rs : List Readi
       )
 
   -- and whatever they mean has these bodies
-  pub means_only : (k : Meaning) → Means dumps options k → HasTables x dumps k → map entry_of rs ≡ k.bodies
+  pub means_only : (k : Meaning) → Means dumps options k → HasTablesBy x own dumps k → map entry_of rs ≡ k.bodies
   means_only k means it =
       sym (the_entries options.unknown_zero x k.entries it.holds.space x.methods.items rs k.bodies are
       (rw (it.holds.tables, it.holds.methods) means.bodies))

@@ -3,14 +3,14 @@
 -- the whole text, or its first bytes. Two listings in memory of the same dumps print the same (`one_output`).
 use Rattle.acpidis.proofs.Common.{◌≡◌, ℕ, Bool, true, false, cond, List, ◌∷◌, ◌++◌, map, get_or, Result, sym, ap, ap₂}
 use Rattle.acpidis.proofs.Common.{◌∙◌, methods_of, codes_view}
-use Rattle.acpidis.proofs.Common.{table_codes, table_dumps, table_terms, body_in_set, methods_in, methods_of_set, TableSet, Method, CodeFault}
+use Rattle.acpidis.proofs.Common.{table_codes, table_dumps, body_in_set, methods_in, methods_of_set, TableSet, Method, CodeFault}
 use Rattle.acpidis.proofs.Common.{Trees, Dump, BodyText, OneBody, OneBlock, levels_of}
 use Rattle.acpidis.proofs.Common.{blocks_of, blocks_in, body_lines, names_in, whole_text, listing_text, IsText}
 use Rattle.acpidis.proofs.Common.{body_view, printed_lines, indexes_in, has_raw}
 use Rattle.acpidis.proofs.Common.{Reading, entry_of, AreReadings}
 use Rattle.acpidis.proofs.Common.{marks_of, checks_with, check_lines, all_same, IsKept, AreKeptOf, IsSame}
 use Rattle.acpidis.proofs.Common.{has_fault, tried_marks, Meaning}
-use Rattle.acpidis.proofs.Common.{Means, Shows, order_of, codes_of, IsSet, Options}
+use Rattle.acpidis.proofs.Common.{Means, Shows, order_of, codes_of, IsSetBy, Options}
 use Rattle.aml_code.specs.View.{nodes_view}
 use Rattle.aml_namespace.specs.Known.{Known, StandsFor}
 use Rattle.aml_namespace.proofs.Stands.{declarations_alone}
@@ -23,6 +23,10 @@ use Rattle.acpidis.proofs.BodyLaws.{texts_agree, trials_are, faults_are}
 use Rattle.acpidis.proofs.MeaningLaws.{means_so, means_only}
 use Rattle.acpidis.proofs.SameLaws.{all_are_same}
 use Rattle.std.specs.FinMap as finite
+use Rattle.acpidis.proofs.Common.{Tables, subst}
+use Rattle.acpidis.specs.Told.{HasTexts}
+use Rattle.aml_text.proofs.ToldLaws.{levels_are, kept_is}
+use Rattle.aml_text.specs.Told.{kept_text, levels_kept}
 
 -- ---- what is printed of dumps, a namespace, definition blocks and methods, with bodies
 
@@ -77,26 +81,26 @@ module _ (dumps : List Dump) (options : Options) (x y : Listing) (sound : (k : M
 
 -- ---- the output of a set whose bodies were read
 
-module _ (dumps : List Dump) (options : Options) (x : TableSet) where
+module _ (dumps : List Dump) (options : Options) (x : TableSet) (trees : List Trees) where
   abbrev blocks : List OneBlock
-  blocks = blocks_of (names_in dumps (table_dumps x.tables.items)) (table_codes x.tables.items) (table_terms x.tables.items)
+  blocks = blocks_of (names_in dumps (table_dumps x.tables.items)) (table_codes x.tables.items) trees
 
   abbrev printed_set : Bool → List OneBody → List ℕ
   printed_set check bs = printed check dumps x.space blocks (table_codes x.tables.items) (methods_of_set x) bs
 
-  module _ (set : IsSet dumps options x) (bs : List Reading) (are : AreReadings options.unknown_zero x bs) where
+  module _ (set : IsSetBy dumps options x trees) (bs : List Reading) (are : AreReadings options.unknown_zero x bs) where
     bodies_are : (k : Meaning) → Means dumps options k → map entry_of bs ≡ k.bodies
-    bodies_are k means = means_only dumps options x bs are k means (set.one k means.set)
+    bodies_are k means = means_only dumps options x trees bs are k means (set.one k means.set)
 
     output_so : (check : Bool) (status : ℕ) (text : List ℕ) → status ≡ cond (has_raw (map entry_of bs)) 3 0
         → text ≡ printed_set check (map entry_of bs) → IsOutput dumps options check status text
     output_so check status text s t =
-        let meant = means_so dumps options x bs are set.sound in
+        let meant = means_so dumps options x trees bs are set.sound in
         let of : (k : Meaning) → Means dumps options k → (status ≡ status_with k) × (text ≡ output_of check dumps k) = λ k means.
         let it = set.one k means.set in (
           s ∙ ap (λ b. cond (has_raw b) 3 0) (bodies_are k means),
           t ∙ ap (printed_set check) (bodies_are k means)
-              ∙ printed_is dumps k (table_dumps x.tables.items) (table_codes x.tables.items) (table_terms x.tables.items) x.space (methods_of_set x) it.named
+              ∙ printed_is dumps k (table_dumps x.tables.items) (table_codes x.tables.items) trees x.space (methods_of_set x) it.named
               it.holds.tables it.holds.trees it.holds.space it.holds.methods check,
         ) in
         let here = of meant.0 meant.1 in
@@ -108,28 +112,28 @@ module _ (dumps : List Dump) (options : Options) (x : TableSet) where
     -- no table differs
     same_so : all_same (checks_with blocks (marks_of (table_codes x.tables.items) (methods_of_set x) (map entry_of bs))) ≡ true
     same_so =
-        let meant = means_so dumps options x bs are set.sound in
+        let meant = means_so dumps options x trees bs are set.sound in
         let it = meant.2 in
         ap (λ bs. all_same (checks_with blocks (marks_of (table_codes x.tables.items) (methods_of_set x) bs))) meant.3
-        ∙ at_listing dumps meant.0 (table_dumps x.tables.items) (table_codes x.tables.items) (table_terms x.tables.items) x.space (methods_of_set x) it.named
+        ∙ at_listing dumps meant.0 (table_dumps x.tables.items) (table_codes x.tables.items) trees x.space (methods_of_set x) it.named
         it.holds.tables it.holds.trees it.holds.space it.holds.methods (λ blocks codes ms. all_same (checks_with blocks (marks_of codes ms meant.0.bodies)))
         ∙ all_are_same dumps options meant.0 meant.1
 
   -- ---- by what is kept of them: texts at the levels of the tables, or trials
 
-  module _ (set : IsSet dumps options x) where
+  module _ (set : IsSetBy dumps options x trees) where
     pub texts_output : (levels : List ℕ) (found ds : List (Result BodyText CodeFault))
-        → levels ≡ levels_of (table_terms x.tables.items) → ds ≡ found
+        → levels ≡ levels_of trees → ds ≡ found
         → AreKeptOf (λ n. IsKept (IsText (get_or levels n 0))) options.unknown_zero x found
         → IsOutput dumps options false (cond (has_fault ds) 3 0) (whole_text dumps (finite.entries x.space.declarations) blocks (map printed_lines ds))
     texts_output levels found ds there is was =
-        let kept : AreKeptOf (λ n. IsKept (IsText (get_or (levels_of (table_terms x.tables.items)) n 0))) options.unknown_zero x ds = rw (is, ← there) was in
-        let Gives : ℕ → Trees → BodyText → Type 0 = λ n. IsText (get_or (levels_of (table_terms x.tables.items)) n 0) in
+        let kept : AreKeptOf (λ n. IsKept (IsText (get_or (levels_of trees) n 0))) options.unknown_zero x ds = rw (is, ← there) was in
+        let Gives : ℕ → Trees → BodyText → Type 0 = λ n. IsText (get_or (levels_of trees) n 0) in
         let front : List ℕ = dumps_text dumps ++ namespace_text (finite.entries x.space.declarations) in
         let same : whole_text dumps (finite.entries x.space.declarations) blocks (map body_lines (map entry_of kept.0))
         ≡ whole_text dumps (finite.entries x.space.declarations) blocks (map printed_lines ds) =
-        ap (λ (l : List ℕ). front ++ l) (same_blocks (names_in dumps (table_dumps x.tables.items)) (table_codes x.tables.items) (table_terms x.tables.items) _ _
-        (texts_agree (levels_of (table_terms x.tables.items)) kept.0 ds kept.2)) in
+        ap (λ (l : List ℕ). front ++ l) (same_blocks (names_in dumps (table_dumps x.tables.items)) (table_codes x.tables.items) trees _ _
+        (texts_agree (levels_of trees) kept.0 ds kept.2)) in
         output_so set kept.0 kept.1 false _ _ (ap (λ b. cond b 3 0) (faults_are Gives kept.0 ds kept.2)) (sym same)
 
     module _ (found ds : List (Result Bool CodeFault)) (is : ds ≡ found)
@@ -148,3 +152,17 @@ module _ (dumps : List Dump) (options : Options) (x : TableSet) where
 
       pub trials_same : all_same (checks_with blocks (tried_marks x.methods.items ds)) ≡ true
       trials_same = ap (λ marks. all_same (checks_with blocks marks)) marks_are ∙ same_so set kept.0 kept.1
+
+-- ---- by what is kept of the tables too: texts, or their terms
+
+module _ (t : Tables) (options : Options) (has : HasTexts t.dumps.now options t.set.now t.texts.now) where
+  pub kept_output : (levels : List ℕ) (found ds : List (Result BodyText CodeFault))
+      → levels ≡ levels_kept t.set.now.tables.items t.texts.now → ds ≡ found
+      → AreKeptOf (λ n. IsKept (IsText (get_or levels n 0))) options.unknown_zero t.set.now found
+      → IsOutput t.dumps.now options false (cond (has_fault ds) 3 0) (kept_text t (map printed_lines ds))
+  kept_output levels found ds there is was =
+      let ts = t.set.now.tables.items in
+      let front : List ℕ = dumps_text t.dumps.now ++ namespace_text (finite.entries t.set.now.space.declarations) in
+      let blocks = kept_is t.dumps.now ts t.texts.now has.0 (map printed_lines ds) has.1.1 in
+      subst (IsOutput t.dumps.now options false (cond (has_fault ds) 3 0)) (sym (ap (λ (l : List ℕ). front ++ l) blocks))
+      (texts_output t.dumps.now options t.set.now has.0 has.1.0 levels found ds (there ∙ levels_are ts t.texts.now has.0 has.1.1) is was)

@@ -1,13 +1,13 @@
 -- What a body reads as, by what was told of it.
-use Rattle.acpidis.proofs.Common.{◌≡◌, ℕ, List, Bool, Result, Ok, Err, Trees, Entry, CodeFault, Method, method_in, Reading, ReadsIn, table_codes, span_of}
+use Rattle.acpidis.proofs.Common.{◌≡◌, ℕ, List, Bool, Result, Ok, Err, Trees, Entry, CodeFault, Method, method_in, ReadsIn, table_codes, span_of}
 use Rattle.acpidis.proofs.Common.{inl, inr, ap, all_lines, flat_map, ◌∙◌}
 use Rattle.std.specs.Prelude.{◌⊎◌, ◌≢◌}
 use Rattle.std.specs.Result.{IfErr}
-use Rattle.acpidis.specs.Bodies.{IsItsBody, IsRaw, ReadsAs}
+use Rattle.acpidis.specs.Bodies.{IsItsBody, IsRaw}
 use Rattle.acpidis.specs.declared.bodies.Unread.{Unread}
 use Rattle.aml_names.specs.declared.faults.CodeFault.TheVariants as codes
 use Rattle.aml_code.specs.Pieces.{Told, line_pieces}
-use Rattle.aml_namespace.specs.Known.{Known, StandsFor}
+use Rattle.aml_namespace.specs.Known.{StandsFor}
 use Rattle.aml_load.specs.Views.{IsReading, GivesBody, ReadsBy}
 use Rattle.aml_load.proofs.BodyLaws.{want_or}
 use Rattle.asl_text.specs.Pieces.{piece_text}

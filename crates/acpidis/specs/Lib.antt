@@ -3,3 +3,4 @@ pub mod Meaning
 pub mod Endings
 pub mod Checks
 pub mod Refusals
+pub mod Told

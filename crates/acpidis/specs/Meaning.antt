@@ -7,8 +7,8 @@ use Rattle.aml_code.specs.Tree.{Trees}
 use Rattle.aml_namespace.specs.Namespace.{Entry}
 use Rattle.aml_namespace.specs.Known.{Declared, declarations_in}
 use Rattle.aml_load.specs.Loading.{methods_of, LoadsTo}
-use Rattle.aml_load.specs.Views.{HoldsLoad, HoldsTables}
-use Rattle.aml_set.specs.Views.{table_dumps}
+use Rattle.aml_load.specs.Views.{HoldsBy, HoldsLoad}
+use Rattle.aml_set.specs.Views.{table_dumps, table_terms}
 use Rattle.aml_set.specs.declared.loaded.Loaded.{Loaded}
 use Rattle.aml_set.specs.declared.tables.TableSet.{TableSet}
 use Rattle.asl_text.specs.Texts.{OneBody}
@@ -72,16 +72,33 @@ none_unknown options = options.any_run && options.unknown_zero
 abbrev pub LoadsBy : Options → List (List ℕ) → List Trees → List Entry → Type 0
 LoadsBy options codes trees es = LoadsTo options.any_run (none_unknown options) options.externals.items codes trees es
 
--- the tables of a set are those of this listing
-pub record HasTables (set : TableSet) (dumps : List Dump) (k : Meaning) : Type 0 where
+-- the tables of a set are those of this listing, and so are these terms of them, whoever has them
+pub record HasTablesBy (set : TableSet) (trees : List Trees) (dumps : List Dump) (k : Meaning) : Type 0 where
   pub named : table_dumps set.tables.items ≡ order_of k
-  pub holds : HoldsTables set (codes_of dumps k) k.trees k.entries
+  pub holds : HoldsBy set trees (codes_of dumps k) k.trees k.entries
 
--- a set is what the dumps load to, which is nothing else, and within the limit of methods
-pub record IsSet (dumps : List Dump) (options : Options) (set : TableSet) : Type 0 where
-  pub sound : (k : Meaning) × LoadsSet dumps options k × HasTables set dumps k
-  pub one : (k : Meaning) → LoadsSet dumps options k → HasTables set dumps k
+-- the same of a set that keeps its terms
+abbrev pub HasTables : TableSet → List Dump → Meaning → Type 0
+HasTables set dumps k = HasTablesBy set (table_terms set.tables.items) dumps k
+
+-- a set with these terms is what the dumps load to, which is nothing else, and within the limit of methods
+pub record IsSetBy (dumps : List Dump) (options : Options) (set : TableSet) (trees : List Trees) : Type 0 where
+  pub sound : (k : Meaning) × LoadsSet dumps options k × HasTablesBy set trees dumps k
+  pub one : (k : Meaning) → LoadsSet dumps options k → HasTablesBy set trees dumps k
   pub few : length set.methods.items ≤ 1048576
+
+-- the same of a set that keeps its terms, and of one that doesn't
+abbrev pub IsSet : List Dump → Options → TableSet → Type 0
+IsSet dumps options set = IsSetBy dumps options set (table_terms set.tables.items)
+
+-- a set is what tables load to, which is nothing else, whatever terms they have
+abbrev pub LoadsNames : Options → List (List ℕ) → TableSet → Type 0
+LoadsNames options codes x = (own : List Trees)
+    × ((trees : List Trees) × (es : List Entry) × LoadsBy options codes trees es × HoldsBy x own codes trees es)
+    × ((trees : List Trees) (es : List Entry) → LoadsBy options codes trees es → HoldsBy x own codes trees es)
+
+abbrev pub IsNamesSet : List Dump → Options → TableSet → Type 0
+IsNamesSet dumps options set = (trees : List Trees) × IsSetBy dumps options set trees
 
 -- ---- a listing in memory
 

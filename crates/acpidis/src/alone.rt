@@ -1,7 +1,7 @@
 //! What `run` writes, by the caller alone: without a runtime, threads or waiting.
 ghost use Rattle.std.specs.Prelude.{true, false};
 ghost use Rattle.acpidis.specs.Endings.{Ends};
-ghost use Rattle.acpidis.specs.Meaning.{IsSet};
+ghost use Rattle.acpidis.specs.Told.{HasTexts};
 
 use crate::bodies::keep_bodies_alone;
 use crate::disassembling::load_set;
@@ -9,6 +9,7 @@ use crate::faults::RunFault;
 use crate::options::Options;
 use crate::running::{print_listing, print_trials};
 use crate::texts::Texts;
+use crate::told::load_texts;
 use crate::trials::Trials;
 use acpi_tables::Dump;
 use aml_text::{Tables, body_levels};
@@ -32,13 +33,16 @@ pub fn run_alone<O: Write, E: Write>(
     // of it; or nothing, and then they mean none, unless memory was refused.
     ensures { Ends dumps.now options.now check (O.contents out.old) (O.contents out.new) result }
 {
-    let (_order, set) = load_set(alloc, dumps, options)?;
-    let tables = Tables { dumps, set: &set };
     if check {
-        checks_alone(alloc, tables, options, out, err)
-    } else {
-        listing_alone(alloc, tables, options, out, err)
+        return checks_alone(alloc, dumps, options, out, err);
     }
+    let (set, texts) = load_texts(alloc, dumps, options)?;
+    let tables = Tables {
+        dumps,
+        set: &set,
+        texts: texts.as_slice(),
+    };
+    listing_alone(alloc, tables, options, out, err)
 }
 
 /// Writes the listing of a loaded set, and a line on `err` for each body that can't be read. Answers the status.
@@ -49,10 +53,10 @@ fn listing_alone<O: Write, E: Write>(
     out: &mut O,
     err: &mut E,
 ) -> Result<u8, RunFault>
-    requires set { IsSet tables.dumps.now options.now tables.set.now }
+    requires set { HasTexts tables.dumps.now options.now tables.set.now tables.texts.now }
     ensures { Ends tables.entry.dumps.now options.now false (O.contents out.old) (O.contents out.new) result }
 {
-    let levels = body_levels(alloc, tables.set.tables.as_slice())?;
+    let levels = body_levels(alloc, tables)?;
     let keep = Texts {
         alloc,
         levels: levels.as_slice(),
@@ -61,18 +65,19 @@ fn listing_alone<O: Write, E: Write>(
     print_listing(tables, options, keep, found.as_slice(), out, err)
 }
 
-/// Writes a line for each table of a loaded set, and a line on `err` for each body that can't be read. Answers the
-/// status.
+/// Loads the tables of these dumps, and writes a line for each, and a line on `err` for each body that can't be read.
+/// Answers the status.
 fn checks_alone<O: Write, E: Write>(
     alloc: Global,
-    tables: Tables<'_, '_>,
+    dumps: &[Dump],
     options: &Options,
     out: &mut O,
     err: &mut E,
 ) -> Result<u8, RunFault>
-    requires set { IsSet tables.dumps.now options.now tables.set.now }
-    ensures { Ends tables.entry.dumps.now options.now true (O.contents out.old) (O.contents out.new) result }
+    ensures { Ends dumps.now options.now true (O.contents out.old) (O.contents out.new) result }
 {
-    let found = keep_bodies_alone(alloc, tables.set, options.unknown_zero, &Trials { alloc })?;
+    let (_order, set) = load_set(alloc, dumps, options)?;
+    let tables = Tables::with_terms(dumps, &set);
+    let found = keep_bodies_alone(alloc, &set, options.unknown_zero, &Trials { alloc })?;
     print_trials(alloc, tables, options, found.as_slice(), out, err)
 }

@@ -14,6 +14,7 @@ mod refusal;
 mod running;
 mod tables;
 mod texts;
+mod told;
 mod trials;
 
 pub use acpi_folder::{MapFault, parse_map};

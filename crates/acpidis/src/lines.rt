@@ -26,7 +26,7 @@ impl Keep for Lines {
 
     fn keep(&self, unread: &Unread<'_, '_>) -> Result<Self::Kept, NoMemory> {
         let told = AtLevel { unread, level: 0 };
-        match told_text(self.alloc, usize::MAX, &told) {
+        match told_text(self.alloc, usize::MAX, told) {
             Ok(Some(text)) => Ok(Ok(text)),
             Ok(None) => Err(NoMemory),
             Err(CodeFault::NoMemory) => Err(NoMemory),

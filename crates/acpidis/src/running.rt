@@ -2,9 +2,10 @@
 ghost use Rattle.std.specs.Prelude.{◌≡◌, ◌⊎◌, ◌≤◌, ℕ, List, true, false, cond, length, get_or};
 ghost use Rattle.std.specs.Io.KnownBytes.{Appends};
 ghost use Rattle.acpidis.specs.Endings.{Lists, IsCut, Ends, status_of};
-ghost use Rattle.aml_set.specs.Views.{body_in_set, table_terms};
+ghost use Rattle.aml_set.specs.Views.{body_in_set};
 ghost use Rattle.asl_text.specs.Bodies.{IsText};
-ghost use Rattle.asl_text.specs.Texts.{levels_of};
+ghost use Rattle.aml_text.specs.Told.{levels_kept};
+ghost use Rattle.acpidis.specs.Told.{HasTexts};
 ghost use Rattle.acpidis.specs.Checks.{AreKeptOf, IsKept, IsSame, has_fault};
 ghost use Rattle.acpidis.specs.Meaning.{IsSet};
 
@@ -17,6 +18,7 @@ use crate::faults::RunFault;
 use crate::options::Options;
 use crate::refusal::Refusal;
 use crate::texts::Texts;
+use crate::told::load_texts;
 use crate::trials::Trials;
 use acpi_folder::Quoted;
 use acpi_tables::Dump;
@@ -103,30 +105,18 @@ fn run_set<R: Threads + Wait + Sync, G: Gate + Sync, O: Write, E: Write>(
     requires workers { (1 ≤ crew.now.workers) × (crew.now.workers ≤ 64) }
     ensures { Ends dumps.now options.now check (O.contents out.old) (O.contents out.new) result }
 {
-    let (_order, set) = load_set(crew.alloc, dumps, options)?;
-    let ended = run_loaded(crew, Tables { dumps, set: &set }, options, check, out, err);
-    forget(set);
-    ended
-}
-
-/// Writes what is printed of a loaded set. Answers the status.
-fn run_loaded<R: Threads + Wait + Sync, G: Gate + Sync, O: Write, E: Write>(
-    crew: &Crew<'_, R, G>,
-    tables: Tables<'_, '_>,
-    options: &Options,
-    check: bool,
-    out: &mut O,
-    err: &mut E,
-) -> Result<u8, RunFault>
-    requires workers { (1 ≤ crew.now.workers) × (crew.now.workers ≤ 64) }
-    requires set { IsSet tables.dumps.now options.now tables.set.now }
-    ensures { Ends tables.entry.dumps.now options.now check (O.contents out.old) (O.contents out.new) result }
-{
     if check {
-        run_checks(crew, tables, options, out, err)
-    } else {
-        run_listing(crew, tables, options, out, err)
+        return run_checks(crew, dumps, options, out, err);
     }
+    let (set, texts) = load_texts(crew.alloc, dumps, options)?;
+    let tables = Tables {
+        dumps,
+        set: &set,
+        texts: texts.as_slice(),
+    };
+    let ended = run_listing(crew, tables, options, out, err);
+    forget((set, texts));
+    ended
 }
 
 /// Writes the listing of a loaded set, and a line on `err` for each body that can't be read. Each body is read and
@@ -139,11 +129,11 @@ fn run_listing<R: Threads + Wait + Sync, G: Gate + Sync, O: Write, E: Write>(
     err: &mut E,
 ) -> Result<u8, RunFault>
     requires workers { (1 ≤ crew.now.workers) × (crew.now.workers ≤ 64) }
-    requires set { IsSet tables.dumps.now options.now tables.set.now }
+    requires set { HasTexts tables.dumps.now options.now tables.set.now tables.texts.now }
     ensures { Ends tables.entry.dumps.now options.now false (O.contents out.old) (O.contents out.new) result }
 {
     let set = tables.set;
-    let levels = body_levels(crew.alloc, set.tables.as_slice())?;
+    let levels = body_levels(crew.alloc, tables)?;
     let keep = Texts {
         alloc: crew.alloc,
         levels: levels.as_slice(),
@@ -164,8 +154,8 @@ pub(crate) fn print_listing<O: Write, E: Write>(
     out: &mut O,
     err: &mut E,
 ) -> Result<u8, RunFault>
-    requires set { IsSet tables.dumps.now options.now tables.set.now }
-    requires levels { keep.levels.now ≡ levels_of (table_terms tables.set.now.tables.items) }
+    requires set { HasTexts tables.dumps.now options.now tables.set.now tables.texts.now }
+    requires levels { keep.levels.now ≡ levels_kept tables.set.now.tables.items tables.texts.now }
     requires kept { AreKeptOf (λ n. IsKept (IsText (get_or keep.levels.now n 0))) options.now.unknown_zero
         tables.set.now texts.now }
     ensures { Ends tables.entry.dumps.now options.now false (O.contents out.old) (O.contents out.new) result }
@@ -177,29 +167,31 @@ pub(crate) fn print_listing<O: Write, E: Write>(
     Ok(status_of_bodies(texts))
 }
 
-/// Writes a line for each table of a loaded set, and a line on `err` for each body that can't be read. Each body is
-/// read and tried by a worker, which lets its terms go. Answers the status.
+/// Loads the tables of these dumps, and writes a line for each, and a line on `err` for each body that can't be read.
+/// Each body is read and tried by a worker, which lets its terms go. Answers the status.
 fn run_checks<R: Threads + Wait + Sync, G: Gate + Sync, O: Write, E: Write>(
     crew: &Crew<'_, R, G>,
-    tables: Tables<'_, '_>,
+    dumps: &[Dump],
     options: &Options,
     out: &mut O,
     err: &mut E,
 ) -> Result<u8, RunFault>
     requires workers { (1 ≤ crew.now.workers) × (crew.now.workers ≤ 64) }
-    requires set { IsSet tables.dumps.now options.now tables.set.now }
-    ensures { Ends tables.entry.dumps.now options.now true (O.contents out.old) (O.contents out.new) result }
+    ensures { Ends dumps.now options.now true (O.contents out.old) (O.contents out.new) result }
 {
+    let (_order, set) = load_set(crew.alloc, dumps, options)?;
     let keep = Trials { alloc: crew.alloc };
-    let found = keep_bodies(crew, tables.set, options.unknown_zero, &keep)?;
-    print_trials(
+    let found = keep_bodies(crew, &set, options.unknown_zero, &keep)?;
+    let ended = print_trials(
         crew.alloc,
-        tables,
+        Tables::with_terms(dumps, &set),
         options,
         found.items.as_slice(),
         out,
         err,
-    )
+    );
+    forget((set, found));
+    ended
 }
 
 /// Writes a line for each table of a loaded set whose bodies were tried so, and a line on `err` for each that can't be

@@ -48,13 +48,15 @@ pub(crate) struct AtLevel<'u, 'a, 'b> {
 impl Telling for AtLevel<'_, '_, '_> {
     ghost can_tell = { λ t. IsItsBody t.unread.now };
 
-    ghost tells = { λ t ps. let u = t.unread.now in let k = u.set.now.space in (ts : Trees) ×
+    type Made = ();
+
+    ghost tells = { λ t made ps. let u = t.unread.now in let k = u.set.now.space in (ts : Trees) ×
         (ReadsBy u.unknown_zero k u.bytes.now (method_in k u.method.now) ts × (ps ≡ line_pieces t.level ts)) };
 
     ghost fails = { λ t fault. (fault ≡ want) ⊎
         ReadsIn t.unread.now.unknown_zero t.unread.now.set.now t.unread.now.method.now (Err fault) };
 
-    fn tell_all<S: Sink>(&self, sink: &mut S) -> Result<(), CodeFault> {
+    fn tell_all<S: Sink>(self, sink: &mut S) -> Result<(), CodeFault> {
         tell_span(
             self.unread.alloc,
             self.unread.bytes,
@@ -90,7 +92,7 @@ impl<'a> Keep for Texts<'a> {
     fn keep(&self, unread: &Unread<'_, '_>) -> Result<Self::Kept, NoMemory> {
         let level = level_of(self.levels, unread.number);
         let told = AtLevel { unread, level };
-        match told_text(self.alloc, most_of(unread.bytes), &told) {
+        match told_text(self.alloc, most_of(unread.bytes), told) {
             Ok(Some(text)) => Ok(Ok(BodyText::Lines(text))),
             Ok(None) => keep_terms(unread, level),
             Err(CodeFault::NoMemory) => keep_terms(unread, level),

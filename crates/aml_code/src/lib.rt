@@ -20,7 +20,7 @@ pub use aml_names::{
 pub use bytes::Bytes;
 pub use encode::{encode_terms, slice};
 pub use packages::{PkgWidth, length_of, little_of, read_pkg, span_of};
-pub use pieces::{Piece, Sink, Telling};
+pub use pieces::{Both, Piece, Sink, TableSink, Telling};
 pub use rows::{Group, Object, OpRow, PartKind, Place, Position, Role, TailKind, takes};
 pub use table::{listed_row, row};
 pub use tree::{Field, Link, Node, Part, Tail};

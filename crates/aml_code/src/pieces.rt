@@ -76,24 +76,74 @@ pub trait Sink {
     ghost further: { (a b c : Self) (ps qs : List Told) → grew a b ps → grew b c qs → grew a c (ps ++ qs) };
 }
 
+/// Two sinks, each of which is told all pieces.
+#[derive(Drop)]
+pub struct Both<'a, A, B> {
+    pub first: &'a mut A,
+    pub second: &'a mut B,
+}
+
+impl<A: Sink, B: Sink> Sink for Both<'_, A, B> {
+    ghost use Rattle.std.proofs.Common.{◌≡◌, refl, ◌∙◌};
+
+    ghost grew = { λ a b ps.
+        ((b.first.ghost_name ≡ a.first.ghost_name) × A.grew a.first.now b.first.now ps)
+        × ((b.second.ghost_name ≡ a.second.ghost_name) × B.grew a.second.now b.second.now ps) };
+
+    #[inline(always)]
+    fn tell(&mut self, piece: Piece<'_>) -> Result<(), NoMemory> {
+        self.first.tell(piece)?;
+        self.second.tell(piece)
+    }
+
+    ghost nothing = { λ s. ((refl, A.nothing s.first.now), (refl, B.nothing s.second.now)) };
+
+    ghost further = { λ a b c ps qs g h. (
+      (h.0.0 ∙ g.0.0, A.further a.first.now b.first.now c.first.now ps qs g.0.1 h.0.1),
+      (h.1.0 ∙ g.1.0, B.further a.second.now b.second.now c.second.now ps qs g.1.1 h.1.1),
+    ) };
+}
+
 /// What tells a sink all pieces of some terms, or why there are none.
 pub trait Telling {
-    ghost use Rattle.std.specs.Prelude.{List, OnOk, IfErr};
+    ghost use Rattle.std.specs.Prelude.{List, IfOk, IfErr};
     ghost use Rattle.aml_names.specs.declared.faults.CodeFault.{CodeFault as Fault};
     ghost use Rattle.aml_code.specs.Pieces.{Told};
+
+    /// What is made of them besides.
+    type Made: Drop;
 
     /// The condition of telling: none, where an impl names none.
     ghost can_tell: { Self → Type 0 } = { λ _. Unit {0} };
 
-    /// That it tells these pieces.
-    ghost tells: { Self → List Told → Type 0 };
+    /// That it tells these pieces, and makes this of them.
+    ghost tells: { Self → Self.Made → List Told → Type 0 };
 
     /// That it tells none for this fault.
     ghost fails: { Self → Fault → Type 0 };
 
     /// Tells them. What was told before a fault says nothing.
-    fn tell_all<S: Sink>(&self, sink: &mut S) -> Result<(), CodeFault>
-        requires { can_tell self.now }
-        ensures told { OnOk result ((ps : List Told) × (tells self.now ps × S.grew sink.old sink.new ps)) }
-        ensures fails { IfErr result (fails self.now) };
+    fn tell_all<S: Sink>(self, sink: &mut S) -> Result<Self::Made, CodeFault>
+        requires { can_tell self }
+        ensures told { IfOk result (λ made. (ps : List Told) × (tells self made ps × S.grew sink.old sink.new ps)) }
+        ensures fails { IfErr result (fails self) };
+}
+
+/// Who is told tables, one after the other, and keeps something of each.
+pub trait TableSink {
+    ghost use Rattle.std.specs.Prelude.{◌≡◌, ◌⊎◌, List, IfOk, IfErr};
+    ghost use Rattle.aml_names.specs.declared.faults.CodeFault.TheVariants.{NoMemory as want};
+    ghost use Rattle.aml_code.specs.Pieces.{Told};
+
+    type Kept: Drop;
+
+    /// That this is kept of a table of these pieces.
+    ghost keeps: { Self → List Told → Self.Kept → Type 0 };
+
+    /// Has a table of so many bytes of AML told. Gives what was made of it besides, and what is kept, or the fault for
+    /// which nothing is told.
+    fn take<T: Telling>(&self, bytes: usize, telling: T) -> Result<(T::Made, Self::Kept), CodeFault>
+        requires { T.can_tell telling }
+        ensures kept { IfOk result (λ x. (ps : List Told) × (T.tells telling x.0 ps × keeps self.now ps x.1)) }
+        ensures fails { IfErr result (λ fault. (fault ≡ want) ⊎ T.fails telling fault) };
 }

@@ -1,6 +1,6 @@
 -- What the progress holds after one entry more.
 use Rattle.std.proofs.Common.{◌≡◌, ℕ, ◌-◌, nat_le, true, cond, List, [], ◌∷◌, ◌++◌, length, Vec, Option, Some, None}
-use Rattle.std.proofs.Common.{is_some, Result, Ok, Err, refl}
+use Rattle.std.proofs.Common.{is_some, Result, Ok, Err, refl, map}
 use Rattle.std.proofs.Common.{sym, ap, subst, ◌∙◌, inl, inr, arith, rules, Bool, false, not, ◌&&◌}
 use Rattle.std.proofs.lemmas.Bool.Decides.{nat_tests}
 use Rattle.std.proofs.lemmas.List.{append-nil, take_all}
@@ -38,7 +38,8 @@ use Rattle.aml_set.specs.declared.methods.Method.{Method as Kept}
 use Rattle.aml_set.specs.Methods.{Method, method_in, methods_in, AreNumbered}
 use Rattle.aml_set.proofs.MethodLaws.{as_many, one_method, one_numbered, same_methods, still_numbered}
 use Rattle.aml_load.specs.declared.walking.Progress.{Progress}
-use Rattle.aml_load.specs.Declaring.{◌>>=◌, Listed, plus, with_uses, term_uses, place_at, entry_at, new_at, units_at}
+use Rattle.aml_load.specs.Hearing.{with_more}
+use Rattle.aml_load.specs.Declaring.{◌>>=◌, Listed, Use, plus, with_uses, place_at, entry_at, new_at, units_at}
 use Rattle.aml_load.specs.Declaring.{declare_as, declare, declare_inside, declare_all}
 use Rattle.aml_load.specs.Loading.{Where, method_of, methods_of, role_of, plain_entry}
 use Rattle.aml_load.specs.Tables.{Fails}
@@ -125,15 +126,15 @@ grown_held old new l grows ms us h = record {
 }
 
 -- the names of a term more
-pub uses_held : (old new : Progress) (l : Listed) (site : Where) (x : Tree) → Holds old l → new.space ≡ old.space
+pub uses_held : (old new : Progress) (l : Listed) (more : List Use) → Holds old l → new.space ≡ old.space
     → new.methods.items ≡ old.methods.items
-    → uses_of old.space new.uses.items ≡ uses_of old.space old.uses.items ++ term_uses site x
-    → AreKnown old.space new.uses.items → Holds new (with_uses site l x)
-uses_held old new l site x h s ms us known = record {
+    → uses_of old.space new.uses.items ≡ uses_of old.space old.uses.items ++ more
+    → AreKnown old.space new.uses.items → Holds new (with_more l more)
+uses_held old new l more h s ms us known = record {
   numbered = numbered_as old new h.numbered (λ id p. subst (λ k. StandsAt k id p) (sym s)) ms;
   space = subst (λ k. StandsFor k l.entries) (sym s) h.space;
   methods = methods_as old new h.numbered (λ id p. subst (λ k. StandsAt k id p) (sym s)) ms ∙ h.methods;
-  uses = ap (λ k. uses_of k new.uses.items) s ∙ us ∙ ap (λ us. us ++ term_uses site x) h.uses;
+  uses = ap (λ k. uses_of k new.uses.items) s ∙ us ∙ ap (λ us. us ++ more) h.uses;
   known = subst (λ k. AreKnown k new.uses.items) (sym s) known;
 }
 
@@ -192,6 +193,26 @@ units_fail site m (unit s w n) us e (inr fails) =
     let new : Result Listed LoadFault = new_at site m (Some (plain_name s)) (plain_entry site m.entries kinds.Field) in
     inr (ap (λ (r : Result Listed LoadFault). r >>= λ j. units_at site j (unit_names us)) (sym (ended new) ∙ fails))
 units_fail site m _ us e (inr fails) = absurd cc
+
+-- the same of a segment and others, at a site that is the same
+pub segments_more : {s : Seg} (site same : Where) (m k : Listed) (ss rest : List Seg) → same ≡ site → ss ≡ s ∷ rest
+    → units_at same m (plain_name s ∷ []) ≡ Ok k → units_at site k (map plain_name rest) ≡ units_at site m (map plain_name ss)
+unfolding units_at
+segments_more {s = s} site same m k ss rest here cut e =
+    let new : Result Listed LoadFault = new_at site m (Some (plain_name s)) (plain_entry site m.entries kinds.Field) in
+    let is : units_at site m (plain_name s ∷ []) ≡ Ok k = subst (λ (w : Where). units_at w m (plain_name s ∷ []) ≡ Ok k) here e in
+    sym (ap (λ (xs : List Seg). units_at site m (map plain_name xs)) cut
+    ∙ ap (λ (r : Result Listed LoadFault). r >>= λ j. units_at site j (map plain_name rest)) (sym (ended new) ∙ is))
+
+pub segments_fail : {s : Seg} (site same : Where) (m : Listed) (ss rest : List Seg) (e : LoadFault) → same ≡ site → ss ≡ s ∷ rest
+    → Fails e (units_at same m (plain_name s ∷ [])) → Fails e (units_at site m (map plain_name ss))
+unfolding units_at
+segments_fail site same m ss rest e here cut (inl want) = inl want
+segments_fail {s = s} site same m ss rest e here cut (inr fails) =
+    let new : Result Listed LoadFault = new_at site m (Some (plain_name s)) (plain_entry site m.entries kinds.Field) in
+    let is : units_at site m (plain_name s ∷ []) ≡ Err e = subst (λ (w : Where). units_at w m (plain_name s ∷ []) ≡ Err e) here fails in
+    inr (ap (λ (xs : List Seg). units_at site m (map plain_name xs)) cut
+    ∙ ap (λ (r : Result Listed LoadFault). r >>= λ j. units_at site j (map plain_name rest)) (sym (ended new) ∙ is))
 
 -- terms inside a term
 pub view-Terms : (ts : Vec Node Global) → tail_view (Terms ts) ≡ terms (nodes_view ts.items)

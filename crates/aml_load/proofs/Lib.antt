@@ -1,7 +1,11 @@
 pub mod Holding
 pub mod Inside
+pub mod HearingLaws
+pub mod Stacks
+pub mod Steps
 mod Grouping
 pub mod Loads
+pub mod Checked
 mod Givens
 pub mod BodyLaws
 pub mod NoSpans
@@ -16,3 +20,4 @@ pub mod Behind
 pub mod Founds
 pub mod Strict
 pub mod Alone
+mod ShortKinds

@@ -1,12 +1,16 @@
 pub mod Groups
 pub mod Loading
 pub mod Declaring
+pub mod Hearing
 pub mod Views
 pub mod Spans
 pub mod Running
 pub mod Tables
 pub mod Walking
+pub mod HearingViews
+pub mod HearerLaws
 pub mod Runner
 pub mod Standing
 pub mod Standings
 pub mod StandingLaws
+pub mod Kept

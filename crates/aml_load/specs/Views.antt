@@ -25,10 +25,21 @@ pub record HoldsLoad (x : Loaded) (codes : List (List ℕ)) (ts : List Trees) (e
   pub space : StandsFor x.space es
   pub methods : methods_in x.space x.methods.items ≡ methods_of es
 
--- Those of a set of tables in one list are.
-pub record HoldsTables (x : TableSet) (codes : List (List ℕ)) (ts : List Trees) (es : List Entry) : Type 0 where
+-- Those of a set of tables in one list are, and these are the tables' terms, whoever has them.
+pub record HoldsBy (x : TableSet) (own : List Trees) (codes : List (List ℕ)) (ts : List Trees)
+    (es : List Entry) : Type 0 where
   pub tables : table_codes x.tables.items ≡ codes
-  pub trees : table_terms x.tables.items ≡ ts
+  pub trees : own ≡ ts
+  pub space : StandsFor x.space es
+  pub methods : methods_of_set x ≡ methods_of es
+
+-- a set that keeps its terms
+abbrev pub HoldsTables : TableSet → List (List ℕ) → List Trees → List Entry → Type 0
+HoldsTables x codes ts es = HoldsBy x (table_terms x.tables.items) codes ts es
+
+-- a set that keeps none
+pub record HoldsNames (x : TableSet) (codes : List (List ℕ)) (es : List Entry) : Type 0 where
+  pub tables : table_codes x.tables.items ≡ codes
   pub space : StandsFor x.space es
   pub methods : methods_of_set x ≡ methods_of es
 

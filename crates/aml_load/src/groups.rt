@@ -1,11 +1,12 @@
 //! Names outside the methods in groups of one scope.
-ghost use Rattle.std.specs.Prelude.{◌≡◌, ◌++◌, ◌<◌, length, OnOk};
+ghost use Rattle.std.specs.Prelude.{◌≡◌, ◌++◌, ◌∷◌, [], ◌<◌, length, OnOk};
 ghost use Rattle.aml_namespace.specs.Known.{Known, path_at};
 ghost use Rattle.aml_load.specs.Groups.{AreKnown, named_in, uses_of};
 
 use crate::used::Asked;
 use aml_code::NoMemory;
 use aml_space::PathId;
+use std::alloc::Global;
 
 /// Names that stand in one scope, each behind the other.
 #[derive(Drop)]
@@ -41,4 +42,21 @@ pub fn add_group(
     names.shrink_to_fit();
     groups.push(Group { scope, names })?;
     Ok(())
+}
+
+/// Adds a name that stands in a scope, as `add_group` does.
+pub fn add_asked(
+    alloc: Global,
+    groups: &mut Vec<Group>,
+    scope: PathId,
+    asked: Asked,
+) -> Result<(), NoMemory>
+    ensures added { (k : Known) → OnOk result
+        (uses_of k groups.new.items ≡ uses_of k groups.old.items ++ named_in (path_at k scope) (asked ∷ [])) }
+    ensures known { (k : Known) → scope < length k.paths → AreKnown k groups.old.items →
+        OnOk result (AreKnown k groups.new.items) }
+{
+    let mut names = Vec::with_capacity(alloc, 1)?;
+    names.push(asked)?;
+    add_group(groups, scope, names)
 }

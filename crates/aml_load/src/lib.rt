@@ -7,6 +7,8 @@
 mod bodies;
 mod faults;
 mod groups;
+mod hearer;
+mod hearing;
 mod laws;
 mod loading;
 mod roles;
@@ -20,6 +22,6 @@ mod walking;
 pub use bodies::{read_body, read_span, tell_span};
 pub use faults::LoadFault;
 pub use laws::{loads_forward, loads_in_text_order, loads_one_way, loads_strictly};
-pub use loading::{load, load_any_run, load_tables};
+pub use loading::{load, load_any_run, load_names, load_tables};
 pub use standing::{StandingTerm, StandingTerms, standing_terms};
 pub use standing_laws::terms_stand_as_declared;

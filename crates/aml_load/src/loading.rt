@@ -9,19 +9,22 @@ ghost use Rattle.aml_code.specs.View.{nodes_view};
 ghost use Rattle.aml_namespace.specs.Namespace.{Entry, given_entries};
 ghost use Rattle.aml_namespace.specs.Known.{StandsFor};
 ghost use Rattle.aml_load.specs.Declaring.{Listed, first_listed, most_methods, use_count, call_fault, uses_at};
+ghost use Rattle.aml_load.specs.Kept.{AreKeptOf};
 ghost use Rattle.aml_load.specs.Loading.{LoadsTo};
-ghost use Rattle.aml_load.specs.Tables.{StopsFor, table_at, tables_at, GivesLoad, GivesSet};
-ghost use Rattle.aml_load.specs.Views.{HoldsLoad, HoldsTables};
+ghost use Rattle.aml_load.specs.Tables.{StopsFor, table_at, tables_at, GivesBy, GivesLoad, GivesSet};
+ghost use Rattle.aml_load.specs.HearingViews.{TablesHeard, IsChecked};
+ghost use Rattle.aml_load.specs.Views.{HoldsLoad, HoldsNames, HoldsTables};
 ghost use Rattle.aml_load.specs.Walking.{Holds, Gives, TableWalked, TablesRead};
 ghost use Rattle.aml_set.specs.Code.{AreCodes, AreShort};
 ghost use Rattle.aml_set.specs.Views.{codes_view, table_codes, table_dumps};
 
 use crate::faults::LoadFault;
 use crate::groups::Group;
+use crate::hearer::hear_table;
 use crate::used::Asked;
 use crate::uses::Site;
 use crate::walking::Progress;
-use aml_code::{Locals, NoMemory, Node, Path};
+use aml_code::{Locals, NoMemory, Node, Path, TableSink};
 use aml_names::{ArgumentCount, Arity, place};
 use aml_parse::parse_module;
 use aml_set::{Loaded, Table, TableSet};
@@ -202,6 +205,32 @@ pub fn first_progress(alloc: Global, givens: &[(Path, ArgumentCount)]) -> Result
     })
 }
 
+/// The set of tables that were declared so, once each name that stands outside the methods was looked at.
+fn checked_set<'a>(
+    mut progress: Progress,
+    tables: Vec<Table<'a>>,
+    any_run: bool,
+    unknown_zero: bool,
+) -> Result<TableSet<'a>, LoadFault>
+    ensures tables { IfOk result (λ x. x.tables.items ≡ tables.entry.items) }
+    ensures checked { (l : Listed) → Holds progress l →
+        IsChecked result l (uses_at any_run unknown_zero l.entries l.uses) }
+{
+    progress.space.settle()?;
+    check_uses(
+        progress.alloc,
+        &progress.space,
+        any_run,
+        unknown_zero,
+        progress.uses.as_slice(),
+    )?;
+    Ok(TableSet {
+        tables,
+        space: progress.space,
+        methods: progress.methods,
+    })
+}
+
 #[tactic(auto, unfolding(crate::specs::Tables::load_at))]
 fn load_each<'a>(
     alloc: Global,
@@ -215,19 +244,80 @@ fn load_each<'a>(
 {
     let mut progress = first_progress(alloc, givens)?;
     read_tables(&mut progress, any_run, &mut tables)?;
-    progress.space.settle()?;
-    check_uses(
-        alloc,
-        &progress.space,
-        any_run,
-        unknown_zero,
-        progress.uses.as_slice(),
-    )?;
-    Ok(TableSet {
-        tables,
-        space: progress.space,
-        methods: progress.methods,
-    })
+    checked_set(progress, tables, any_run, unknown_zero)
+}
+
+/// Reads tables whole, and declares what their terms declare: no term is kept. Gives what is kept of each.
+#[tactic(auto, unfolding(crate::specs::Tables::tables_at))]
+fn hear_tables<S: TableSink>(
+    progress: Progress,
+    tables: &[Table<'_>],
+    sink: &S,
+) -> Result<(Progress, Vec<S::Kept>), LoadFault>
+    ensures heard { (l : Listed) → Holds progress l →
+        TablesHeard (λ x. x.0) result (tables_at false 0 [] l (table_codes tables.now)) }
+    ensures kept { IfOk result (λ x. AreKeptOf S.keeps sink.now (table_codes tables.now) x.1.items) }
+{
+    let mut heard = progress;
+    let mut kept = Vec::new(heard.alloc);
+    for number in 0..tables.len() {
+        let (progress, one) = hear_table(heard, number, tables[number].code, sink)?;
+        heard = progress;
+        kept.push(one)?;
+    }
+    Ok((heard, kept))
+}
+
+#[tactic(auto, unfolding(crate::specs::Tables::load_at))]
+fn hear_each<'a, S: TableSink>(
+    alloc: Global,
+    tables: Vec<Table<'a>>,
+    givens: &[(Path, ArgumentCount)],
+    sink: &S,
+) -> Result<(TableSet<'a>, Vec<S::Kept>), LoadFault>
+    ensures dumps { IfOk result (λ x. table_dumps x.0.tables.items ≡ table_dumps tables.entry.items) }
+    ensures gives { GivesBy (λ x codes trees es. HoldsNames x.0 codes es) false false givens.now result
+        (table_codes tables.entry.items) }
+    ensures kept { IfOk result (λ x. AreKeptOf S.keeps sink.now (table_codes tables.entry.items) x.1.items) }
+{
+    let (progress, kept) = hear_tables(first_progress(alloc, givens)?, tables.as_slice(), sink)?;
+    let set = checked_set(progress, tables, false, false)?;
+    Ok((set, kept))
+}
+
+/// Loads tables that aren't read yet as one, as `load` does, and keeps no terms: each table keeps its place, its dump and
+/// its AML. The sink is told each table once, as it declares: what it keeps of them is answered too, in load order.
+pub fn load_names<'a, S: TableSink>(
+    alloc: Global,
+    tables: Vec<Table<'a>>,
+    givens: &[(Path, ArgumentCount)],
+    sink: &S,
+) -> Result<(TableSet<'a>, Vec<S::Kept>), LoadFault>
+    // The tables are the same ones.
+    ensures dumps { IfOk result (λ x. table_dumps x.0.tables.items ≡ table_dumps tables.entry.items) }
+    // Their AML reads as terms that load to entries whose namespace and methods are the answer's.
+    ensures sound { IfOk result (λ x. (trees : List Trees) × (es : List Entry) ×
+        LoadsTo false false givens.now (table_codes tables.entry.items) trees es ×
+        HoldsNames x.0 (table_codes tables.entry.items) es) }
+    // To nothing else.
+    ensures one { IfOk result (λ x. (trees : List Trees) (es : List Entry) →
+        LoadsTo false false givens.now (table_codes tables.entry.items) trees es →
+        HoldsNames x.0 (table_codes tables.entry.items) es) }
+    // Of each table is kept what the sink keeps of its terms' pieces, in lines of the first level.
+    ensures kept { IfOk result (λ x. AreKeptOf S.keeps sink.now (table_codes tables.entry.items) x.1.items) }
+    // There are at most so many methods.
+    ensures few { IfOk result (λ x. length x.0.methods.items ≤ most_methods) }
+    // A refusal for another cause than memory comes only where there are no trees and entries that load.
+    ensures complete { IfErr result (λ e. (e ≡ LoadFault.NoMemory) ⊎ ((trees : List Trees) (es : List Entry) →
+        LoadsTo false false givens.now (table_codes tables.entry.items) trees es → ⊥)) }
+    // A fault is true of its table and of the entries where it stands.
+    ensures true_fault { IfErr result (λ e. (e ≡ LoadFault.NoMemory) ⊎
+        StopsFor false false givens.now (table_codes tables.entry.items) e) }
+    // Which fault it is: the first that is met in loading forward.
+    ensures forward { GivesBy (λ x codes trees es. HoldsNames x.0 codes es) false false givens.now result
+        (table_codes tables.entry.items) }
+{
+    hear_each(alloc, tables, givens, sink)
 }
 
 /// Loads tables that aren't read yet as one, as `load` does, or as `load_any_run` where `any_run` says so: each keeps

@@ -32,7 +32,7 @@ const MOST_LEVELS: u16 = 512;
 
 impl Site {
     /// Under a path, which has a number from now on.
-    fn under(
+    pub fn under(
         &self,
         progress: &mut Progress,
         path: &Below<'_>,

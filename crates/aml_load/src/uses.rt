@@ -25,14 +25,14 @@ pub struct Site {
     pub sure: bool,
 }
 
-fn is_argument(kind: PartKind) -> bool
+pub fn is_argument(kind: PartKind) -> bool
     ensures { result ≡ is_argument kind }
 {
     kind == PartKind::Term
 }
 
 /// The kinds of the parts of an opcode.
-fn kinds_of(opcode: u16) -> &'static [PartKind]
+pub fn kinds_of(opcode: u16) -> &'static [PartKind]
     ensures { result.now ≡ kinds_in opcode }
 {
     match listed_row(opcode) {
@@ -41,7 +41,7 @@ fn kinds_of(opcode: u16) -> &'static [PartKind]
     }
 }
 
-fn declares_by(group: Group) -> bool
+pub fn declares_by(group: Group) -> bool
     ensures { result ≡ declares_by group }
 {
     match group {

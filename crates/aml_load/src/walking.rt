@@ -1,5 +1,5 @@
 //! What the terms of a table declare.
-ghost use Rattle.std.specs.Prelude.{◌≡◌, ◌∷◌, ◌++◌, [], Option, Some, None, Ok, IfOk, IfSome, OnOk, true, take, length, ◌<◌};
+ghost use Rattle.std.specs.Prelude.{◌≡◌, ◌∷◌, ◌++◌, [], Option, Some, None, Ok, IfOk, IfSome, OnOk, true, take, length, ◌<◌, map};
 ghost use Rattle.std.specs.Option.{option_copied, ok_or};
 ghost use Rattle.std.specs.List.{list_all};
 ghost use Rattle.aml_code.specs.Lawful.{last_label, field_names, plain_name, unit_names};
@@ -337,47 +337,59 @@ impl Progress {
     }
 
     /// Declares a method, however many there are.
-    fn declare_method(&mut self, site: &Site, parts: &[Part], tail: &Tail) -> Result<(), LoadFault>
+    fn declare_method(
+        &mut self,
+        site: &Site,
+        name: Option<&Name>,
+        flags: u8,
+        span: (u32, u32),
+    ) -> Result<(), LoadFault>
         requires { IsInside self.old site.now }
-        ensures walks { Walks self.old self.new result (λ l.
-            new_at (at_site self.old.space site.now) l (last_label None (parts_view parts.now))
-            (method_entry (at_site self.old.space site.now) l.entries (byte_of (parts_view parts.now))
-            (body_span (tail_view tail.now)))) }
+        ensures walks { Walks self.old self.new result (λ l. new_at (at_site self.old.space site.now) l
+            (option_copied name.entry) (method_entry (at_site self.old.space site.now) l.entries flags span)) }
         ensures stays { OnOk result (Stays self.old self.new) }
     {
-        let path = self.own_path(site, last_name(parts))?;
-        let (start, len) = body_span(tail);
-        self.declare_body(site, &path, byte_in(parts), start, len)
+        let path = self.own_path(site, name)?;
+        self.declare_body(site, &path, flags, span.0, span.1)
     }
 }
 
 impl Progress {
     /// Declares a method. `TooManyMethods` where as many as there may be are there, whatever its name is.
     #[tactic(auto, unfolding(crate::specs::Declaring::method_at))]
-    pub fn add_method(&mut self, site: &Site, parts: &[Part], tail: &Tail) -> Result<(), LoadFault>
+    pub fn declare_one_method(
+        &mut self,
+        site: &Site,
+        name: Option<&Name>,
+        flags: u8,
+        span: (u32, u32),
+    ) -> Result<(), LoadFault>
         requires { IsInside self.old site.now }
         ensures walks { Walks self.old self.new result (λ l.
-            method_at (at_site self.old.space site.now) l (last_label None (parts_view parts.now))
-            (byte_of (parts_view parts.now)) (body_span (tail_view tail.now))) }
+            method_at (at_site self.old.space site.now) l (option_copied name.entry) flags span) }
         ensures stays { OnOk result (Stays self.old self.new) }
     {
         if MAX_METHODS <= self.methods.len() {
             return Err(LoadFault::TooManyMethods);
         }
-        self.declare_method(site, parts, tail)
+        self.declare_method(site, name, flags, span)
     }
 
     #[tactic(auto, unfolding(crate::specs::Declaring::alias_at))]
-    pub fn add_alias(&mut self, site: &Site, parts: &[Part]) -> Result<(), LoadFault>
+    pub fn declare_one_alias(
+        &mut self,
+        site: &Site,
+        source: Option<&Name>,
+        name: Option<&Name>,
+    ) -> Result<(), LoadFault>
         requires { IsInside self.old site.now }
         ensures walks { Walks self.old self.new result (λ l.
-            alias_at (at_site self.old.space site.now) l (first_label (parts_view parts.now))
-            (last_label None (parts_view parts.now))) }
+            alias_at (at_site self.old.space site.now) l (option_copied source.entry) (option_copied name.entry)) }
         ensures stays { OnOk result (Stays self.old self.new) }
     {
-        self.expect_search(site, first_name(parts));
-        let source = self.source_path(site, first_name(parts))?;
-        self.declare_alias(site, last_name(parts), &source)
+        self.expect_search(site, source);
+        let source = self.source_path(site, source)?;
+        self.declare_alias(site, name, &source)
     }
 
     /// Adds an External of a path.
@@ -391,6 +403,46 @@ impl Progress {
     }
 
     #[tactic(auto, unfolding(crate::specs::Declaring::external_at))]
+    pub fn declare_external(
+        &mut self,
+        site: &Site,
+        name: Option<&Name>,
+        count: u8,
+    ) -> Result<(), LoadFault>
+        requires { IsInside self.old site.now }
+        ensures walks { Walks self.old self.new result (λ l.
+            external_at (at_site self.old.space site.now) l (option_copied name.entry) count) }
+        ensures stays { OnOk result (Stays self.old self.new) }
+    {
+        let path = self.own_path(site, name)?;
+        self.add_count(&path, count)
+    }
+}
+
+impl Progress {
+    /// Declares the method of a term.
+    pub fn add_method(&mut self, site: &Site, parts: &[Part], tail: &Tail) -> Result<(), LoadFault>
+        requires { IsInside self.old site.now }
+        ensures walks { Walks self.old self.new result (λ l.
+            method_at (at_site self.old.space site.now) l (last_label None (parts_view parts.now))
+            (byte_of (parts_view parts.now)) (body_span (tail_view tail.now))) }
+        ensures stays { OnOk result (Stays self.old self.new) }
+    {
+        self.declare_one_method(site, last_name(parts), byte_in(parts), body_span(tail))
+    }
+
+    /// Declares the Alias of a term.
+    pub fn add_alias(&mut self, site: &Site, parts: &[Part]) -> Result<(), LoadFault>
+        requires { IsInside self.old site.now }
+        ensures walks { Walks self.old self.new result (λ l.
+            alias_at (at_site self.old.space site.now) l (first_label (parts_view parts.now))
+            (last_label None (parts_view parts.now))) }
+        ensures stays { OnOk result (Stays self.old self.new) }
+    {
+        self.declare_one_alias(site, first_name(parts), last_name(parts))
+    }
+
+    /// Adds the External of a term.
     pub fn add_external(&mut self, site: &Site, parts: &[Part]) -> Result<(), LoadFault>
         requires { IsInside self.old site.now }
         ensures walks { Walks self.old self.new result (λ l.
@@ -398,25 +450,37 @@ impl Progress {
             (byte_of (parts_view parts.now))) }
         ensures stays { OnOk result (Stays self.old self.new) }
     {
-        let path = self.own_path(site, last_name(parts))?;
-        self.add_count(&path, byte_in(parts))
+        self.declare_external(site, last_name(parts), byte_in(parts))
     }
 }
 
 #[tactic(auto, unfolding(crate::specs::Declaring::units_at))]
 impl Progress {
     /// Declares the unit of a field list with this segment.
-    fn add_unit(&mut self, site: &Site, seg: Seg) -> Result<(), LoadFault>
+    fn add_unit(&mut self, site: &Site, seg: &Seg) -> Result<(), LoadFault>
         requires { IsInside self.old site.now }
         ensures walks { Walks self.old self.new result (λ l.
-            units_at (at_site self.old.space site.now) l (plain_name seg ∷ [])) }
+            units_at (at_site self.old.space site.now) l (plain_name seg.now ∷ [])) }
         ensures stays { OnOk result (Stays self.old self.new) }
     {
         let path = Below {
             above: site.scope,
-            segs: &[seg],
+            segs: &[*seg],
         };
         self.declare(site, &path, Kind::Field)
+    }
+
+    /// Declares the units of a field list with these segments.
+    pub fn add_segments(&mut self, site: &Site, segs: &[Seg]) -> Result<(), LoadFault>
+        requires { IsInside self.old site.now }
+        ensures walks { Walks self.old self.new result (λ l.
+            units_at (at_site self.old.space site.now) l (map plain_name segs.now)) }
+        ensures stays { OnOk result (Stays self.old self.new) }
+    {
+        for seg in segs {
+            self.add_unit(site, seg)?;
+        }
+        Ok(())
     }
 
     fn add_field(&mut self, site: &Site, field: &Field) -> Result<(), LoadFault>
@@ -426,7 +490,7 @@ impl Progress {
         ensures stays { OnOk result (Stays self.old self.new) }
     {
         match field {
-            Field::NamedUnit { seg, .. } => self.add_unit(site, *seg),
+            Field::NamedUnit { seg, .. } => self.add_unit(site, seg),
             _ => Ok(()),
         }
     }

@@ -20,7 +20,7 @@ mod told;
 mod units;
 
 pub use body::{body_terms, parse_body};
-pub use module::parse_module;
+pub use module::{parse_module, tell_module};
 pub use positions::next_position;
 pub use running::{reads_forward, reads_one_way, spells_table};
 pub use step::read_step;

@@ -1,17 +1,19 @@
 //! The AML of a table.
 #![tactic(auto, unfolding(crate::specs::Reading::all_at))]
 
-ghost use Rattle.std.specs.Prelude.{◌≡◌, ◌⊎◌, ◌≤◌, ◌<◌, ◌^◌, None, Some, length, IfOk, IfErr};
-ghost use Rattle.aml_names.specs.NameReading.{Gives};
+ghost use Rattle.std.specs.Prelude.{◌≡◌, ◌⊎◌, ◌≤◌, ◌<◌, ◌^◌, None, Some, Ok, length, OnOk, IfOk, IfErr};
+ghost use Rattle.aml_names.specs.NameReading.{Gives, Fails};
 ghost use Rattle.aml_code.specs.Faults.{StandsAt};
 ghost use Rattle.aml_code.specs.Lawful.{ReadsModule, no_arguments};
+ghost use Rattle.aml_code.specs.Pieces.{line_pieces};
 ghost use Rattle.aml_code.specs.Tree.{Trees};
 ghost use Rattle.aml_code.specs.View.{nodes_view};
 ghost use Rattle.aml_parse.specs.Reading.{all_at};
 
 use crate::parser::{MOST_LEVELS, Parser};
 use crate::room::without_room;
-use aml_code::{CodeFault, Name, Names, NoMemory, Node, Position};
+use crate::tell::Here;
+use aml_code::{CodeFault, Name, Names, NoMemory, Node, Position, Sink};
 use std::alloc::Global;
 
 /// In a table no name has arguments, and none is kept.
@@ -93,4 +95,64 @@ pub fn parse_module(alloc: Global, code: &[u8]) -> Result<Vec<Node>, CodeFault>
         (all_at no_arguments None Position.ModuleTerm code.now) }
 {
     module_terms(alloc, code)
+}
+
+/// What `tell_module` tells: the lines of the terms, up to the fault that is met first.
+fn tell_module_terms<S: Sink>(
+    alloc: Global,
+    code: &[u8],
+    level: u32,
+    sink: &mut S,
+) -> Result<(), CodeFault>
+    requires { length code.now < 2 ^ 32 }
+    ensures told { OnOk result ((ts : Trees) × ((all_at no_arguments None Position.ModuleTerm code.now ≡ Ok ts)
+        × S.grew sink.old sink.new (line_pieces level ts))) }
+    ensures fails { IfErr result (λ fault. Fails fault (all_at no_arguments None Position.ModuleTerm code.now)) }
+{
+    let parser = Parser {
+        alloc,
+        names: &NoArguments,
+        levels: MOST_LEVELS,
+    };
+    let end = code.len() as u32;
+    let here = Here {
+        position: Position::ModuleTerm,
+        levels: MOST_LEVELS,
+        level,
+    };
+    parser.tell_lines(here, end, &mut Nothing, sink, code)?;
+    Ok(())
+}
+
+/// Tells a sink the terms of a table's AML, which `code` holds whole, piece by piece as they are read, and makes no
+/// trees of them. The body of a method isn't read, as in `parse_module`. The terms stand in lines of this level.
+///
+/// A fault's offset is one in `code`, and what the fault says is true there. Which of several faults is answered is the
+/// first that is met in reading forward; what was told until then says nothing.
+pub fn tell_module<S: Sink>(
+    alloc: Global,
+    code: &[u8],
+    level: u32,
+    sink: &mut S,
+) -> Result<(), CodeFault>
+    // The limit of a table.
+    requires { length code.now ≤ 16777216 }
+
+    // What is told are the pieces of lawful terms, whose bytes are the code: of those that reading forward gives.
+    ensures told { OnOk result ((ts : Trees) × (ReadsModule code.now ts
+        × ((all_at no_arguments None Position.ModuleTerm code.now ≡ Ok ts)
+        × S.grew sink.old sink.new (line_pieces level ts)))) }
+    // Of no others.
+    ensures one { OnOk result ((ts : Trees) → ReadsModule code.now ts →
+        S.grew sink.old sink.new (line_pieces level ts)) }
+    // A refusal for another cause than memory comes only where no terms are.
+    ensures complete { IfErr result (λ fault. (fault ≡ CodeFault.NoMemory) ⊎
+        ((ts : Trees) → ReadsModule code.now ts → ⊥)) }
+    // A fault is true of its offset.
+    ensures placed { IfErr result (StandsAt no_arguments code.now) }
+    // Which fault it is.
+    ensures forward { IfErr result (λ fault. Fails fault (all_at no_arguments None Position.ModuleTerm code.now)) }
+{
+    tell_module_terms(alloc, code, level, sink)?;
+    Ok(())
 }

@@ -18,7 +18,7 @@ pub use Rattle.asl_text.specs.Texts.{BodyLines, all_levels, levels_of}
 pub use Rattle.asl_text.specs.Texts.{left_all, block_text, blocks_text, OneBlock}
 unfoldable pub use Rattle.asl_text.specs.Texts.{line}
 pub use Rattle.std.proofs.Common.{◌≡◌, ℕ, ◌<◌, List, length, get_or, map, sym, ap, ◌∙◌, arith, None, [], ◌++◌}
-pub use Rattle.std.proofs.Common.{append_assoc, refl}
+pub use Rattle.std.proofs.Common.{ap₂, append_assoc, refl, Option}
 pub use Rattle.std.proofs.Common.{◌+◌, ◌∷◌, Some, subst, drop, append-nil, flat_map, is_some}
 pub use Rattle.std.proofs.lemmas.List.{length-map, get_or-map, drop_more, at_drop_all}
 pub use Rattle.std.proofs.lemmas.List.{flat_map_more}

@@ -4,3 +4,4 @@ mod RowLaws
 mod RowLines
 pub mod ListingLaws
 pub mod SameBlocks
+pub mod ToldLaws

@@ -57,6 +57,3 @@ shown_text x = whole_text x.dumps.now (map.entries x.loaded.space.declarations) 
 abbrev pub blocks_at : Tables → List OneBlock
 blocks_at t = blocks_of (names_in t.dumps.now (table_dumps t.set.now.tables.items)) (table_codes t.set.now.tables.items)
     (table_terms t.set.now.tables.items)
-
-abbrev pub set_text : Tables → List BodyLines → List ℕ
-set_text t bodies = whole_text t.dumps.now (map.entries t.set.now.space.declarations) (blocks_at t) bodies

@@ -8,9 +8,12 @@ mod levels;
 mod listing;
 mod rows;
 mod tables;
+mod told;
 mod writing;
 
-pub use asl_text::{Block, Bodies, Body, BodyText, print_block, term_text, told_text};
+pub use asl_text::{
+    Block, Bodies, Body, BodyText, TableText, TableTexts, print_block, term_text, told_text,
+};
 pub use levels::body_levels;
 pub use listing::{Listing, Tables};
 pub use rows::print_rows;

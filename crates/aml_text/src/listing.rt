@@ -1,9 +1,9 @@
 //! What is known of a set of tables.
-ghost use Rattle.std.specs.Prelude.{◌≡◌, length};
+ghost use Rattle.std.specs.Prelude.{◌≡◌, [], length};
 
 use acpi_tables::{Dump, Order};
 use aml_set::{Loaded, TableSet};
-use asl_text::Body;
+use asl_text::{Body, TableText};
 
 /// A set of tables: its dumps, the tables that were loaded, and the bodies of their methods.
 #[derive(Drop)]
@@ -19,10 +19,26 @@ pub struct Listing<'a> {
     pub ghost each: { length bodies.items ≡ length loaded.methods.items },
 }
 
-/// A set of tables without the bodies of their methods: the dumps, and the tables that were loaded, each with the index
-/// of its dump.
+/// A set of tables without the bodies of their methods: the dumps, the tables that were loaded, each with the index of
+/// its dump, and what is kept of their texts, in load order: none of a table that keeps its terms.
 #[derive(Clone, Copy)]
 pub struct Tables<'s, 'a> {
     pub dumps: &'s [Dump],
     pub set: &'s TableSet<'a>,
+    pub texts: &'s [Option<TableText>],
+}
+
+impl<'s, 'a> Tables<'s, 'a> {
+    /// Of tables that keep their terms.
+    pub fn with_terms(dumps: &'s [Dump], set: &'s TableSet<'a>) -> Tables<'s, 'a>
+        ensures dumps { result.dumps.now ≡ dumps.now }
+        ensures set { result.set.now ≡ set.now }
+        ensures texts { result.texts.now ≡ [] }
+    {
+        Tables {
+            dumps,
+            set,
+            texts: &[],
+        }
+    }
 }

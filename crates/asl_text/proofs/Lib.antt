@@ -7,4 +7,8 @@ pub mod BodyLaws
 pub mod LevelLaws
 pub mod PieceLaws
 pub mod ToldLaws
+pub mod WovenLaws
+pub mod PlainLaws
+pub mod TableLaws
+pub mod ToldTables
 mod EndLaws

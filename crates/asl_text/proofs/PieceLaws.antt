@@ -22,7 +22,7 @@ use Rattle.aml_code.specs.Tree.{word as word_part}
 use Rattle.aml_code.specs.Faults.{Arities, most_levels}
 use Rattle.aml_code.specs.Lawful.{Setting, IsLawful, AreTerms, IsTail, IsPart, AreParts, AreFields, ReadsBody, after}
 use Rattle.aml_code.specs.Lawful.{next_position, terms_in, tail_in, setting_of}
-use Rattle.aml_code.specs.Pieces.{Told, deeper, part_count, pieces, items, more_items, part_pieces, parts_pieces}
+use Rattle.aml_code.specs.Pieces.{Told, opcode, deeper, part_count, pieces, items, more_items, part_pieces, parts_pieces}
 use Rattle.aml_code.specs.Pieces.{more_parts, tail_pieces, line_pieces, fields_pieces, field_pieces, link_pieces}
 use Rattle.aml_code.specs.Pieces.{end_of_call, end_of_parts, end_of_list, end_of_line, end_of_link}
 use Rattle.aml_code.proofs.InnerLaws.{is_inner, inner_next}
@@ -38,11 +38,11 @@ use Rattle.text_writer.specs.Prints.{word}
 
 -- ---- texts one after the other
 
-abbrev text_of : List Told → List ℕ
+abbrev pub text_of : List Told → List ℕ
 text_of ps = flat_map piece_text ps
 
 -- pieces, one more, and others
-among : (ps qs : List Told) (q : Told) → text_of (ps ++ q ∷ qs) ≡ text_of ps ++ (piece_text q ++ text_of qs)
+pub among : (ps qs : List Told) (q : Told) → text_of (ps ++ q ∷ qs) ≡ text_of ps ++ (piece_text q ++ text_of qs)
 among ps qs q = flat_map-append piece_text ps (q ∷ qs)
 
 -- pieces and others, at first or behind a comma
@@ -111,13 +111,15 @@ call_text level n ts e =
     ∙ ap (λ l. name_text n ++ l) (ap (λ c. opened c ++ (joined (inlines ts) ++ (closed c ++ []))) (tree_texts ts)
     ∙ around (inlines ts) [] ∙ append-nil (arguments_text (inlines ts)))
 
-head_text_of : (level o : ℕ) (w : Option PkgWidth) (ps : Parts) (t : Tail)
+-- an opcode with its parts, and what follows
+pub head_text_of : (level o : ℕ) (w : Option PkgWidth) (ps : Parts) (qs : List Told)
     → text_of (parts_pieces level ps) ≡ joined (part_texts ps)
-    → text_of (pieces level (op o w ps t)) ≡ head_of o ps ++ text_of (tail_pieces level t)
-head_text_of level o w ps t e =
-    let inside = text_of (tail_pieces level t) in
+    → text_of (opcode o (row_of o) w (part_count ps)
+    ∷ (parts_pieces level ps ++ end_of_parts (row_of o) (part_count ps) ∷ qs)) ≡ head_of o ps ++ text_of qs
+head_text_of level o w ps qs e =
+    let inside = text_of qs in
     ap (λ l. row_opening (row_of o) (part_count ps) ++ l)
-    (among (parts_pieces level ps) (tail_pieces level t) (end_of_parts (row_of o) (part_count ps))
+    (among (parts_pieces level ps) qs (end_of_parts (row_of o) (part_count ps))
     ∙ ap (λ l. l ++ (row_closing (row_of o) (part_count ps) ++ inside)) e)
     ∙ ap (λ c. row_opening (row_of o) c ++ (joined (part_texts ps) ++ (row_closing (row_of o) c ++ inside)))
     (parts_texts ps)
@@ -133,14 +135,14 @@ elements_text level ts e =
 -- ---- a term that stands in a line has no block
 
 -- no list of terms, and none of fields
-is_flat : Option TailKind → Bool
+abbrev pub is_flat : Option TailKind → Bool
 is_flat (Some tails.Terms) = false
 is_flat (Some tails.Fields) = false
 is_flat _ = true
 
-inner_flat : (p : Position) (o : ℕ) (r : Row) → is_inner p ≡ true → row_of o ≡ Some r → takes p r.place ≡ true
+pub inner_flat : (p : Position) (o : ℕ) (r : Row) → is_inner p ≡ true → row_of o ≡ Some r → takes p r.place ≡ true
     → is_flat r.tail ≡ true
-unfolding rows is_flat
+unfolding rows
 inner_flat positions.Argument o r i e taken =
     rows_say (λ r. takes positions.Argument r.place) (λ r. is_flat r.tail) refl o r e taken
 inner_flat positions.Target o r i e taken =
@@ -150,36 +152,34 @@ inner_flat positions.Data o r i e taken =
 inner_flat _ o r i e taken = absurd cc
 
 -- there a tail is kept as it is
-inner_tail : (p : Position) (k : Option TailKind) → is_inner p ≡ true → option_map (tail_in p) k ≡ k
+pub inner_tail : (p : Position) (k : Option TailKind) → is_inner p ≡ true → option_map (tail_in p) k ≡ k
 inner_tail p None i = refl
 inner_tail positions.RunTerm (Some k) i = absurd cc
 inner_tail positions.RunAfterIf (Some k) i = absurd cc
 inner_tail _ (Some k) i = refl
 
 module _ (s : Setting) (levels : ℕ) where
-  no_terms : (p : Position) (k : Option TailKind) (ls : PathSet) (ts : Trees) → is_flat k ≡ true
+  pub no_terms : (p : Position) (k : Option TailKind) (ls : PathSet) (ts : Trees) → is_flat k ≡ true
       → IsTail s (IsLawful s levels) p k ls (terms ts) → ⊥
-  unfolding is_flat
   no_terms p (Some tails.Terms) ls ts f h = absurd cc
   no_terms p _ ls ts f h = absurd h
 
-  no_fields_there : (p : Position) (k : Option TailKind) (ls : PathSet) (us : Fields) → is_flat k ≡ true
+  pub no_fields_there : (p : Position) (k : Option TailKind) (ls : PathSet) (us : Fields) → is_flat k ≡ true
       → IsTail s (IsLawful s levels) p k ls (fields us) → ⊥
-  unfolding is_flat
   no_fields_there p (Some tails.Fields) ls us f h = absurd cc
   no_fields_there p _ ls us f h = absurd h
 
-  tail_terms : (p : Position) (k : Option TailKind) (ls : PathSet) (ts : Trees)
+  pub tail_terms : (p : Position) (k : Option TailKind) (ls : PathSet) (ts : Trees)
       → IsTail s (IsLawful s levels) p k ls (terms ts) → AreTerms s levels p ls ts
   tail_terms p (Some tails.Terms) ls ts h = h
   tail_terms p _ ls ts h = absurd h
 
-  tail_elements : (p : Position) (k : Option TailKind) (ls : PathSet) (ts : Trees)
+  pub tail_elements : (p : Position) (k : Option TailKind) (ls : PathSet) (ts : Trees)
       → IsTail s (IsLawful s levels) p k ls (elements ts) → AreTerms s levels positions.Data ls ts
   tail_elements p (Some tails.Elements) ls ts h = h
   tail_elements p _ ls ts h = absurd h
 
-  tail_fields : (p : Position) (k : Option TailKind) (ls : PathSet) (us : Fields)
+  pub tail_fields : (p : Position) (k : Option TailKind) (ls : PathSet) (us : Fields)
       → IsTail s (IsLawful s levels) p k ls (fields us) → AreFields (λ q. IsLawful s levels q ls) us
   tail_fields p (Some tails.Fields) ls us h = h
   tail_fields p _ ls us h = absurd h
@@ -195,7 +195,7 @@ mutual
       call_text level n ts (items_text s levels positions.Argument ls level ts refl h.3)
   inner_text s (suc levels) p ls level (op o w ps t) i h =
       let flat = inner_flat p o h.row i h.listed (taker_takes p h.row.place h.taken) in
-      head_text_of level o w ps t (parts_text s levels ls level h.row.parts ps h.parts)
+      head_text_of level o w ps (tail_pieces level t) (parts_text s levels ls level h.row.parts ps h.parts)
       ∙ ap (λ l. head_of o ps ++ l) (inner_tail_text s levels _ h.row.tail ls level t flat
       (subst (λ (k : Option TailKind). IsTail s (IsLawful s levels) (terms_in p h.row.place) k ls t)
       (inner_tail p h.row.tail i) h.tail))
@@ -231,7 +231,7 @@ mutual
   one_part s levels ls level k (qword b) h = append-nil (part_text (qword b))
   one_part s levels ls level k (text b) h = append-nil (part_text (text b))
 
-  parts_text : (s : Setting) (levels : ℕ) (ls : PathSet) (level : ℕ) (ks : List PartKind) (ps : Parts)
+  pub parts_text : (s : Setting) (levels : ℕ) (ls : PathSet) (level : ℕ) (ks : List PartKind) (ps : Parts)
       → AreParts (λ q. IsLawful s levels q ls) ks ps → text_of (parts_pieces level ps) ≡ joined (part_texts ps)
   parts_text s levels ls level ks no_parts h = joined_none
   parts_text s levels ls level [] (part_more p ps) h = absurd h
@@ -313,7 +313,7 @@ unfolding line
 line_is level head rest more = simp append_assoc
 
 mutual
-  term_text : (s : Setting) (levels : ℕ) (p : Position) (ls : PathSet) (level : ℕ) (t : Tree) (qs : List Told)
+  pub term_text : (s : Setting) (levels : ℕ) (p : Position) (ls : PathSet) (level : ℕ) (t : Tree) (qs : List Told)
       → IsLawful s levels p ls t
       → indent level ++ text_of (pieces level t ++ end_of_line ∷ qs) ≡ term_lines [] None level t ++ text_of qs
   term_text s zero p ls level t qs h = absurd h
@@ -324,7 +324,7 @@ mutual
   term_text s (suc levels) p ls level (op o w ps t) qs h =
       ap (λ l. indent level ++ l) (among (pieces level (op o w ps t)) qs end_of_line
       ∙ ap (λ l. l ++ (word "\n" ++ text_of qs))
-      (head_text_of level o w ps t (parts_text s levels ls level h.row.parts ps h.parts)))
+      (head_text_of level o w ps (tail_pieces level t) (parts_text s levels ls level h.row.parts ps h.parts)))
       ∙ tail_lines s levels _ _ ls level o ps t qs h.tail
 
   -- a line, or a block, by the tail

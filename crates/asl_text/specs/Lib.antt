@@ -1,5 +1,6 @@
 -- The text of each thing.
 pub mod Texts
 pub mod Pieces
+pub mod Tables
 pub mod TextLaws
 pub mod Bodies

@@ -50,7 +50,7 @@ fn print_comma_decimal<W: Write>(out: &mut Out<'_, W>, n: u8)
 }
 
 /// The number of arguments, whether the method is serialized, and its sync level.
-fn print_flags<W: Write>(out: &mut Out<'_, W>, flags: u8)
+pub(crate) fn print_flags<W: Write>(out: &mut Out<'_, W>, flags: u8)
     ensures { Prints W.contents out.old out.new (flags_text flags) }
 {
     print_comma_decimal(out, flags % 8);
@@ -239,7 +239,7 @@ pub fn print_block<'b, W: Write>(
 
 /// The head of a definition block: the name of its table's file.
 #[derive(Drop)]
-struct BlockHead<'n>(&'n [u8]);
+pub(crate) struct BlockHead<'n>(pub(crate) &'n [u8]);
 
 impl Inline for BlockHead<'_> {
     ghost text = { λ head. word "DefinitionBlock (" ++ quoted head.0.now ++ word ")" };

@@ -1,5 +1,5 @@
 //! A text in memory of a bounded length.
-ghost use Rattle.std.specs.Prelude.{◌≡◌, [], Some};
+ghost use Rattle.std.specs.Prelude.{◌≡◌, [], Some, length};
 ghost use Rattle.std.specs.Io.{WritesAtMost};
 ghost use Rattle.std.specs.Io.KnownBytes.{Keeps, WriteAppends};
 
@@ -22,6 +22,13 @@ impl Bounded {
             text: Vec::new(alloc),
             left,
         }
+    }
+
+    /// How many bytes it has.
+    pub(crate) fn len(&self) -> usize
+        ensures { result ≡ length self.now.text.items }
+    {
+        self.text.len()
     }
 
     /// The text, in as much memory as it needs.

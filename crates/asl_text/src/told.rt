@@ -1,7 +1,7 @@
 //! The lines of terms that are told piece by piece.
 #![tactic(auto, using(crate::proofs::NodeLaws::printing, crate::proofs::ToldLaws::printing))]
 
-ghost use Rattle.std.specs.Prelude.{◌≡◌, ◌++◌, ℕ, List, Some, flat_map, length, OnOk, IfErr};
+ghost use Rattle.std.specs.Prelude.{◌≡◌, ◌++◌, ℕ, List, Some, flat_map, length, IfOk, IfErr};
 ghost use Rattle.aml_names.specs.declared.segments.Seg.{Seg as AnySeg};
 ghost use Rattle.aml_code.specs.Faults.{Arities};
 ghost use Rattle.aml_code.specs.Lawful.{ReadsBody};
@@ -118,7 +118,7 @@ fn print_fixed<W: Write>(out: &mut Out<'_, W>, text: &[u8])
 /// A piece. Only what the reader prints in its own frame is inlined: a function that would grow very large is inlined
 /// no more itself.
 #[inline(always)]
-fn print_piece<W: Write>(out: &mut Out<'_, W>, piece: Piece<'_>)
+pub(crate) fn print_piece<W: Write>(out: &mut Out<'_, W>, piece: Piece<'_>)
     ensures { Prints W.contents out.old out.new (piece_text (piece_view piece.entry)) }
 {
     match piece {
@@ -171,15 +171,15 @@ impl<W: Write> Sink for Lines<'_, '_, W> {
         (g.0 ∙ h.0, told_further W.contents a.out.now b.out.now c.out.now ps qs h.1 g.1) };
 }
 
-/// Prints what is told.
+/// Prints what is told. Answers what is made of it besides.
 pub(crate) fn print_told<W: Write, T: Telling>(
     out: &mut Out<'_, W>,
-    telling: &T,
-) -> Result<(), CodeFault>
-    requires { T.can_tell telling.now }
-    ensures told { OnOk result ((ps : List Told) × (T.tells telling.now ps ×
+    telling: T,
+) -> Result<T::Made, CodeFault>
+    requires { T.can_tell telling }
+    ensures told { IfOk result (λ made. (ps : List Told) × (T.tells telling made ps ×
         Prints W.contents out.old out.new (flat_map piece_text ps))) }
-    ensures fails { IfErr result (T.fails telling.now) }
+    ensures fails { IfErr result (T.fails telling) }
 {
     let mut lines = Lines { out };
     telling.tell_all(&mut lines)

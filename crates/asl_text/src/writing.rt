@@ -54,13 +54,13 @@ pub fn term_text(alloc: Global, node: &Node) -> Result<Vec<u8>, NoMemory>
 /// Writes what is told, and says how that went; or why nothing is told.
 fn write_told<W: Write, T: Telling>(
     out: &mut W,
-    telling: &T,
+    telling: T,
     buffer: &mut [u8],
 ) -> Result<Result<(), WriteFault>, CodeFault>
-    requires { T.can_tell telling.now }
-    ensures told { IfOk result (λ written. (ps : List Told) × (T.tells telling.now ps ×
+    requires { T.can_tell telling }
+    ensures told { IfOk result (λ written. (made : T.Made) × (ps : List Told) × (T.tells telling made ps ×
         Writes (W.contents out.old) (W.contents out.new) (flat_map piece_text ps) written)) }
-    ensures fails { IfErr result (T.fails telling.now) }
+    ensures fails { IfErr result (T.fails telling) }
 {
     let mut lines = Out::new(out, buffer);
     print_told(&mut lines, telling)?;
@@ -72,12 +72,12 @@ fn write_told<W: Write, T: Telling>(
 pub fn told_text<T: Telling>(
     alloc: Global,
     most: usize,
-    telling: &T,
+    telling: T,
 ) -> Result<Option<Vec<u8>>, CodeFault>
-    requires { T.can_tell telling.now }
-    ensures told { IfOk result (λ text. IfSome text (λ t. (ps : List Told) × (T.tells telling.now ps ×
-        (t.items ≡ flat_map piece_text ps)))) }
-    ensures fails { IfErr result (T.fails telling.now) }
+    requires { T.can_tell telling }
+    ensures told { IfOk result (λ text. IfSome text (λ t. (made : T.Made) × (ps : List Told) ×
+        (T.tells telling made ps × (t.items ≡ flat_map piece_text ps)))) }
+    ensures fails { IfErr result (T.fails telling) }
 {
     let mut text = Bounded::new(alloc, most);
     match write_told(&mut text, telling, &mut [0; ROOM])? {

@@ -7,6 +7,7 @@ mod loads;
 mod memory;
 mod nesting;
 mod starts;
+mod tables;
 mod telling;
 mod walks;
 mod writers;

@@ -166,6 +166,20 @@ impl<'w, W: Write> Out<'w, W> {
         self.len = 0;
     }
 
+    /// The writer, which has what was printed but for what waits.
+    pub fn writer(&self) -> &W
+        ensures { result.now ≡ self.now.inner.now }
+    {
+        self.inner
+    }
+
+    /// How many bytes wait.
+    pub fn waits(&self) -> usize
+        ensures { result ≡ length (waiting self.now) }
+    {
+        self.len
+    }
+
     /// Writes what waits, and says how it went.
     pub fn finish(&mut self) -> Result<(), WriteFault>
         ensures prints { Prints W.contents self.old self.new [] }

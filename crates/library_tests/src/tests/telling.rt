@@ -16,13 +16,15 @@ struct Code<'c> {
 }
 
 impl Telling for Code<'_> {
+    type Made = ();
+
     ghost can_tell = { λ t. length t.code.now ≤ 16777216 };
 
-    ghost tells = { λ _ _. ⊤ };
+    ghost tells = { λ _ _ _. ⊤ };
 
     ghost fails = { λ _ _. ⊤ };
 
-    fn tell_all<S: Sink>(&self, sink: &mut S) -> Result<(), CodeFault> {
+    fn tell_all<S: Sink>(self, sink: &mut S) -> Result<(), CodeFault> {
         let scope = Path::root(self.alloc);
         tell_body(self.alloc, self.code, &Bare, &scope, 1, sink)?;
         Ok(())
@@ -46,6 +48,6 @@ fn has_lines(told: Result<Option<Vec<u8>>, CodeFault>, lines: &[u8]) -> bool {
 #[test]
 fn a_body_is_told_in_lines(rt: HostRuntime) {
     let alloc = rt.alloc();
-    let told = told_text(alloc, 99, &Code { alloc, code: BODY });
+    let told = told_text(alloc, 99, Code { alloc, code: BODY });
     assert!(rt; has_lines(told, LINES));
 }

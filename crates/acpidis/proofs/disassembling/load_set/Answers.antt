@@ -1,4 +1,4 @@
-use Rattle.acpidis.proofs.Common.{err_from_is_err_and, table_codes, ◌∙◌}
+use Rattle.acpidis.proofs.Common.{table_terms, err_from_is_err_and, table_codes, ◌∙◌}
 use Rattle.acpidis.proofs.MeaningLaws.{set_so, tells_blocks, none_meant}
 use Rattle.acpidis.proofs.disassembling.load_set.Goals as goal
 
@@ -27,4 +27,4 @@ pub returns-clause-set : goal.returns-clause-set
 returns-clause-set c =
     set_so c.args.dumps.now c.args.options.now c.in_ok-order.order (table_codes c.in_ok-tables.tables.items)
     c.in_ok-order.ensures.order c.in_ok-order.ensures.only c.in_ok-tables.ensures.codes
-    c.in-Ok.set (c.in-Ok.ensures.dumps ∙ c.in_ok-tables.ensures.dumps) c.in-Ok.ensures.sound c.in-Ok.ensures.one c.in-Ok.ensures.few
+    c.in-Ok.set (table_terms c.in-Ok.set.tables.items) (c.in-Ok.ensures.dumps ∙ c.in_ok-tables.ensures.dumps) c.in-Ok.ensures.sound c.in-Ok.ensures.one c.in-Ok.ensures.few

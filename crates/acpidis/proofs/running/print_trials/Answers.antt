@@ -16,7 +16,7 @@ returns-in_err-write_tables g c =
     let set = c.args.tables in
     let checked = c.in_ok-checks.ensures
     ∙ (λ i. checks_with (blocks_at set) (tried_marks (c.as_slice-methods.ensures.value i) c.args.tried.now)) in
-    let output = trials_output set.dumps.now c.args.options.now set.set.now c.requires.set _ _ refl c.requires.kept in
+    let output = trials_output set.dumps.now c.args.options.now set.set.now (table_terms set.set.now.tables.items) c.requires.set _ _ refl c.requires.kept in
     let gave = err_from_is_err_and c.from_residual-in_err-write_tables.result c.from_residual-in_err-write_tables.ensures.1 in
     let cut = rw (c.as_slice.ensures.value ∙ checked) at c.in_err-write_tables.ensures in
     rw (gave.1, gave.2) (record { status = _; text = _; wrote = _; lists = output.lists; cut = cut })
@@ -26,7 +26,7 @@ returns-then-not-are_same g c =
     let set = c.args.tables in
     let checked = c.in_ok-checks.ensures
     ∙ (λ i. checks_with (blocks_at set) (tried_marks (c.as_slice-methods.ensures.value i) c.args.tried.now)) in
-    let same = trials_same set.dumps.now c.args.options.now set.set.now c.requires.set _ _ refl c.requires.kept in
+    let same = trials_same set.dumps.now c.args.options.now set.set.now (table_terms set.set.now.tables.items) c.requires.set _ _ refl c.requires.kept in
     absurd (true≢false (sym (ap all_same (c.as_slice-2.ensures.value ∙ checked) ∙ same) ∙ sym c.if-not-are_same.ensures))
 
 pub returns : goal.returns
@@ -34,7 +34,7 @@ returns g c =
     let set = c.args.tables in
     let checked = c.in_ok-checks.ensures
     ∙ (λ i. checks_with (blocks_at set) (tried_marks (c.as_slice-methods.ensures.value i) c.args.tried.now)) in
-    let output = trials_output set.dumps.now c.args.options.now set.set.now c.requires.set _ _ refl c.requires.kept in (
+    let output = trials_output set.dumps.now c.args.options.now set.set.now (table_terms set.set.now.tables.items) c.requires.set _ _ refl c.requires.kept in (
       _,
       rw c.status_of_bodies.ensures output,
       rw (c.as_slice.ensures.value ∙ checked) at c.in_ok-write_tables.ensures,

@@ -1,4 +1,4 @@
-use Rattle.acpidis.proofs.Common.{refl, Ok, Err, IsKept, IsText, BodyText, reading_of}
+use Rattle.acpidis.proofs.Common.{refl, Ok, Err, IsKept, IsText, reading_of}
 use Rattle.asl_text.specs.declared.bodies.BodyText.TheVariants as kept_texts
 use Rattle.acpidis.proofs.texts.keep_terms.Goals as goal
 

@@ -1,45 +1,35 @@
-use Rattle.std.proofs.Common.{refl, sym, ap, subst, ◌∙◌}
-use Rattle.std.proofs.lemmas.Result.{err_from_is_err_and}
-use Rattle.aml_namespace.specs.Known.{StandsFor}
-use Rattle.aml_set.specs.Methods.{methods_in}
-use Rattle.aml_load.specs.Groups.{uses_of}
+use Rattle.std.proofs.Common.{◌≡◌, ap, ◌∙◌, List, Result, Ok, Err, IfOk}
 use Rattle.aml_load.specs.Declaring.{first_listed}
-use Rattle.aml_set.specs.Views.{table_codes, table_terms}
-use Rattle.aml_load.proofs.Loads.{load_gives, load_refused}
+use Rattle.aml_load.specs.Views.{HoldsTables}
+use Rattle.aml_set.specs.Views.{table_codes, table_dumps, table_terms}
+use Rattle.aml_set.specs.declared.tables.Table.{Table}
+use Rattle.aml_set.specs.declared.tables.TableSet.{TableSet}
+use Rattle.aml_load.specs.declared.faults.LoadFault.{LoadFault}
+use Rattle.aml_load.proofs.Checked.{checked_gives}
 use Rattle.aml_load.proofs.loading.load_each.Goals as goal
-
-pub returns-clause-dumps : goal.returns-clause-dumps
-returns-clause-dumps c = (c.in_ok-read_tables.ensures (first_listed c.args.givens.now) c.in_ok-progress.ensures).0
 
 pub returns-clause-gives : goal.returns-clause-gives
 returns-clause-gives c =
     let gs = c.args.givens.now in
-    let codes = table_codes c.args.tables.items in
     let read = c.in_ok-read_tables.ensures (first_listed gs) c.in_ok-progress.ensures in
     let m = read.2.0 in
-    let stands = subst (λ k. StandsFor k m.entries) (sym c.settle.ensures) read.2.1.space in
-    let free = c.in_ok-check_uses.ensures m stands in (
-      table_terms c.read_tables.new.tables.items,
-      m,
-      record {
-        tables = read.1;
-        trees = refl;
-        space = stands;
-        methods = ap (λ k. methods_in k c.read_tables.new.progress.methods.items) c.settle.ensures ∙ read.2.1.methods;
-      },
-      load_gives c.args.any_run c.args.unknown_zero gs codes (table_terms c.read_tables.new.tables.items) m
-          (uses_of c.settle.new.self c.as_slice.result.now) c.in_ok-check_uses.field-0 read.2.2
-          ((λ i. uses_of (c.settle.ensures i) (c.as_slice.ensures.value i)) ∙ read.2.1.uses) free,
-    )
+    let now = c.read_tables.new.tables.items in
+    checked_gives c.args.any_run c.args.unknown_zero gs (table_codes c.args.tables.items) HoldsTables now c.checked_set.result
+    (table_terms now) m
+    (λ x same stands methods. record {
+      tables = ap table_codes same ∙ read.1;
+      trees = ap table_terms same;
+      space = stands;
+      methods = methods;
+    }) read.2.2 c.checked_set.ensures.tables (c.checked_set.ensures.checked m read.2.1)
 
-pub returns-in_err-check_uses-clause-gives : goal.returns-in_err-check_uses-clause-gives
-returns-in_err-check_uses-clause-gives c =
-    let gs = c.args.givens.now in
-    let read = c.in_ok-read_tables.ensures (first_listed gs) c.in_ok-progress.ensures in
-    let m = read.2.0 in
-    let gave = err_from_is_err_and c.from_residual-in_err-check_uses.result c.from_residual-in_err-check_uses.ensures.1 in
-    rw (gave.1, gave.2)
-    (load_refused c.args.any_run c.args.unknown_zero gs (table_codes c.args.tables.items) (table_terms c.read_tables.new.tables.items) m
-    (uses_of c.settle.new.self c.as_slice.result.now) c.in_err-check_uses.field-0.0 read.2.2
-    ((λ i. uses_of (c.settle.ensures i) (c.as_slice.ensures.value i)) ∙ read.2.1.uses)
-    (c.in_err-check_uses.ensures m (subst (λ k. StandsFor k m.entries) (sym c.settle.ensures) read.2.1.space)))
+-- the tables are those that were read
+same_dumps : (answer : Result TableSet LoadFault) (now old : List Table) → table_dumps now ≡ table_dumps old
+    → IfOk answer (λ x. x.tables.items ≡ now) → IfOk answer (λ x. table_dumps x.tables.items ≡ table_dumps old)
+same_dumps (Ok x) now old is same = ap table_dumps same ∙ is
+same_dumps (Err e) now old is same = tt
+
+pub returns-clause-dumps : goal.returns-clause-dumps
+returns-clause-dumps c =
+    same_dumps c.checked_set.result c.read_tables.new.tables.items c.args.tables.items
+    (c.in_ok-read_tables.ensures (first_listed c.args.givens.now) c.in_ok-progress.ensures).0 c.checked_set.ensures.tables

@@ -1,4 +1,4 @@
-use Rattle.std.proofs.Common.{subst, sym}
+use Rattle.std.proofs.Common.{subst}
 use Rattle.asl_text.proofs.Common.{Prints}
 use Rattle.asl_text.proofs.TextLaws.{indent_front}
 use Rattle.asl_text.proofs.lines.print_indent.Goals as goal

@@ -12,4 +12,4 @@ returns-clause-told g c =
     let done = writes_listing _ c.new-lines.result c.print_told.new.out c.finish.new.self (flat_map piece_text told.0)
     c.finish.result begun.well begun.none begun.empty told.1.1 ended.prints ended.ok ended.err in
     let ends = c.out-2-1.given.1 (sym begun.same ∙ sym same) in
-    (told.0, (told.1.0, rw ends (rw (← begun.now) done)))
+    (c.in_ok-print_told.field-0, told.0, (told.1.0, rw ends (rw (← begun.now) done)))

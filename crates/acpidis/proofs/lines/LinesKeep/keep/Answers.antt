@@ -6,11 +6,11 @@ pub returns-in-Ok-Some : goal.returns-in-Ok-Some
 returns-in-Ok-Some c =
     let told = rw c.in-Ok-Some.field-0-is at c.in-Ok-Some.ensures.told in
     let unread = c.args.unread.now in
-    let tells = told.1.0 in (
+    let tells = told.2.0 in (
       Ok tells.0,
       (
         told_reads unread c.requires tells.0 tells.1.0,
-        told_lines unread c.requires 0 tells.0 told.0 _ tells.1.0 tells.1.1 told.1.1,
+        told_lines unread c.requires 0 tells.0 told.1 _ tells.1.0 tells.1.1 told.2.1,
       ),
     )
 

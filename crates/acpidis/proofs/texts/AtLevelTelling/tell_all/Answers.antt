@@ -9,5 +9,5 @@ returns-clause-told g c =
 
 pub returns-clause-fails : goal.returns-clause-fails
 returns-clause-fails g c =
-    err_both c.tell_span.result _ _ _ (λ fault fails first. raw_or c.args.self.now.unread.now c.requires fault fails first)
+    err_both c.tell_span.result _ _ _ (λ fault fails first. raw_or c.args.self.unread.now c.requires fault fails first)
     c.tell_span.ensures.fails c.tell_span.ensures.forward

@@ -5,4 +5,4 @@ use Rattle.aml_load.proofs.walking.Progress.add_unit.Goals as goal
 
 pub returns-clause-walks : goal.returns-clause-walks
 returns-clause-walks c l h = subst (Walked c.declare.new.self c.declare.result)
-    (unit_is (at_site c.args.self.now.space c.args.site.now) l _ c.args.seg refl) (c.declare.ensures.walks l h)
+    (unit_is (at_site c.args.self.now.space c.args.site.now) l _ c.args.seg.now refl) (c.declare.ensures.walks l h)

@@ -26,4 +26,4 @@ returns-clause-asks c =
     c.in_ok-add_names.ensures scope ∙ ap (λ ns. named_in scope ns ++ term_uses (strict s.table scope) x) c.new-names.ensures.items in
     of_both c.add_group.result (λ l h. c.add_group.ensures.added k)
     (λ l h. c.add_group.ensures.known k c.requires h.known)
-    (λ l h added known. uses_held old _ l (at_site k s) x h refl refl (added ∙ ap (λ us. uses_of k old.uses.items ++ us) names) known)
+    (λ l h added known. uses_held old _ l (term_uses (at_site k s) x) h refl refl (added ∙ ap (λ us. uses_of k old.uses.items ++ us) names) known)

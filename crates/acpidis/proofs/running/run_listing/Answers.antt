@@ -1,6 +1,0 @@
-use Rattle.acpidis.proofs.Common.{ap, ◌∙◌, table_terms, levels_of}
-use Rattle.acpidis.proofs.running.run_listing.Goals as goal
-
-pub print_listing-ended-requires-clause-levels : goal.print_listing-ended-requires-clause-levels
-print_listing-ended-requires-clause-levels g c =
-    c.as_slice-2.ensures.value ∙ c.in_ok-levels.ensures ∙ ap (λ ts. levels_of (table_terms ts)) c.as_slice.ensures.value

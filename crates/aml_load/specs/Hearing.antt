@@ -1,0 +1,257 @@
+-- A stepping stone: what the pieces of a table's terms declare, one after the other as they are told (ACPI 6.5, 5.3 and
+-- 20.2.5), as `Declaring` says it of the terms.
+use Rattle.std.specs.Prelude.{ℕ, Bool, true, false, cond, List, [], ◌∷◌, ◌++◌, Option, Some, None, Result, Ok, drop}
+use Rattle.std.specs.Option.{unwrap_or, option_map}
+use Rattle.aml_names.specs.declared.names.Name.{Name}
+use Rattle.aml_code.specs.Lawful.{unit_names}
+use Rattle.aml_code.specs.Opcodes.{Row}
+use Rattle.aml_code.specs.Pieces.{Told, absent, name, end_of_call, opcode, part, tail, list, end_of_list, field}
+use Rattle.aml_code.specs.Tree.{nothing, Part, child, label, byte, Field, no_fields, field_more}
+use Rattle.aml_code.specs.declared.rows.PartKind.{PartKind}
+use Rattle.aml_code.specs.declared.rows.Role.{Role}
+use Rattle.aml_code.specs.declared.rows.Role.TheVariants as roles
+use Rattle.aml_code.specs.declared.rows.TailKind.{TailKind}
+use Rattle.aml_code.specs.declared.rows.TailKind.TheVariants as tails
+use Rattle.aml_space.specs.declared.faults.SpaceFault.TheVariants as faults
+use Rattle.aml_load.specs.declared.faults.LoadFault.{LoadFault}
+use Rattle.aml_load.specs.Declaring.{◌>>=◌, Listed, Use, use_of, is_argument, kinds_in, under, body_span, place_at, lead_at, entry_at}
+use Rattle.aml_load.specs.Declaring.{method_at, alias_at, external_at, units_at}
+use Rattle.aml_namespace.specs.Kinds.{Kind}
+use Rattle.aml_load.specs.Loading.{Where, declares_by, kind_of, plain_entry}
+
+-- What was told so far of a term of a list: where it stands, whether it is a declaration, and its role; whether a part
+-- was told, and the first one, if that is a name; the last name and the last byte among the parts; and the named units
+-- behind them.
+pub record Head : Type 0 where
+  pub site : Where
+  pub declaring : Bool
+  pub role : Role
+  pub begun : Bool
+  pub source : Option Name
+  pub last : Option Name
+  pub byte : Option ℕ
+  pub units : List Name
+
+-- What stands around a piece: a list of terms at a site; the parts of a term of such a list, or of another opcode, of
+-- which these kinds are still to come; the arguments of a name; elements; the units of a term of a list; or what
+-- declares nothing and asks nothing.
+pub data Around : Type 0 where
+  terms : Where → Around
+  head : List PartKind → Around
+  inner : List PartKind → Around
+  arguments : Around
+  elements : Around
+  units : Around
+  nowhere : Around
+
+-- What is listed, the term of a list that isn't told whole, and what stands around the next piece, the nearest first.
+pub record Heard : Type 0 where
+  pub listed : Listed
+  pub term : Option Head
+  pub around : List Around
+
+-- ---- The head of a term.
+
+abbrev pub head_of : Where → Option Row → Head
+head_of site row = record {
+  site = site;
+  declaring = unwrap_or (option_map (λ (r : Row). declares_by r.group) row) false;
+  role = unwrap_or (option_map (λ (r : Row). r.role) row) roles.Other;
+  begun = false;
+  source = None;
+  last = None;
+  byte = None;
+  units = [];
+}
+
+-- behind a part of a head
+abbrev pub with_part : Part → Head → Head
+with_part (label n) h = record h { begun = true; source = cond h.begun h.source (Some n); last = Some n }
+with_part (byte b) h = record h { begun = true; byte = Some b }
+with_part _ h = record h { begun = true }
+
+-- what of a part is noted
+abbrev pub noted : Part → Part
+noted (label n) = label n
+noted (byte b) = byte b
+noted _ = child nothing
+
+-- what a term does that declares an object of this kind
+unfoldable pub enter_kind : Head → Listed → Kind → Result (Listed × Option Where) LoadFault
+enter_kind h l kind = do
+  p ← place_at h.site h.last
+  m ← entry_at h.site l p (plain_entry h.site l.entries kind p)
+  Ok (m, Some (under h.site p))
+
+-- What a term of this role does by its head, with the span of its body; and where the terms inside it stand, if they
+-- declare.
+unfoldable pub enter_as : Role → Head → Listed → ℕ × ℕ → Result (Listed × Option Where) LoadFault
+enter_as (roles.Declares o) h l span = enter_kind h l (kind_of o)
+enter_as roles.Scope h l span = do
+  p ← lead_at h.site l.entries h.last (λ p. faults.ScopeMissing p)
+  Ok (l, Some (under h.site p))
+enter_as roles.Guard h l span = Ok (l, Some h.site)
+enter_as roles.Other h l span = Ok (l, None)
+enter_as roles.Method h l span = do
+  m ← method_at h.site l h.last (unwrap_or h.byte 0) span
+  Ok (m, None)
+enter_as roles.Alias h l span = do
+  m ← alias_at h.site l h.source h.last
+  Ok (m, None)
+enter_as roles.External h l span = do
+  m ← external_at h.site l h.last (unwrap_or h.byte 0)
+  Ok (m, None)
+enter_as roles.Fields h l span = do
+  m ← units_at h.site l h.units
+  Ok (m, None)
+
+unfoldable pub enter : Head → Listed → ℕ × ℕ → Result (Listed × Option Where) LoadFault
+enter h l span = enter_as h.role h l span
+
+-- ---- What stands around.
+
+-- whether names there are asked, and whether a name there is a TermArg
+abbrev pub asks_of : List PartKind → Option Bool
+asks_of [] = None
+asks_of (k ∷ ks) = Some (is_argument k)
+
+abbrev pub asks : Around → Option Bool
+asks (terms site) = None
+asks (head ks) = asks_of ks
+asks (inner ks) = asks_of ks
+asks arguments = Some true
+asks elements = Some false
+asks units = Some false
+asks nowhere = None
+
+-- inside what is asked, and inside what isn't
+abbrev pub inside : Around → Around → Around
+inside a new = unwrap_or (option_map (λ (b : Bool). new) (asks a)) nowhere
+
+-- behind a part, an argument, an element or a term
+abbrev pub passed : Around → Around
+passed (head ks) = head (drop 1 ks)
+passed (inner ks) = inner (drop 1 ks)
+passed a = a
+
+abbrev pub top : List Around → Around
+top [] = nowhere
+top (a ∷ outer) = a
+
+abbrev pub all_passed : List Around → List Around
+all_passed [] = []
+all_passed (a ∷ outer) = passed a ∷ outer
+
+-- behind a part, which may be one of a head
+abbrev pub noted_by : Around → Part → Option Head → Option Head
+noted_by (head ks) p h = option_map (with_part p) h
+noted_by _ p h = h
+
+abbrev pub behind_part : Part → Heard → Heard
+behind_part p x = record x { term = noted_by (top x.around) p x.term; around = all_passed x.around }
+
+-- behind a term
+abbrev pub behind_term : Heard → Heard
+behind_term x = behind_part (child nothing) x
+
+-- without what stands nearest
+abbrev pub left : Heard → Heard
+left x = record x { around = drop 1 x.around }
+
+abbrev pub opening : Around → Heard → Heard
+opening a x = record x { around = a ∷ x.around }
+
+-- ---- The pieces.
+
+-- these names more
+abbrev pub with_more : Listed → List Use → Listed
+with_more l us = record { entries = l.entries; uses = l.uses ++ us }
+
+-- a name that is a TermArg is asked
+abbrev pub asked_by : Option Head → Option Bool → Name → ℕ → Heard → Heard
+asked_by (Some h) (Some true) n count x =
+    record x { listed = with_more x.listed (use_of h.site h.declaring n count ∷ []) }
+asked_by _ _ n count x = x
+
+abbrev pub asked : Name → ℕ → Heard → Heard
+asked n count x = asked_by x.term (asks (top x.around)) n count x
+
+-- an opcode, by what stands around it
+abbrev pub opened_by : Around → ℕ → Option Row → Heard → Heard
+opened_by (terms site) o row x =
+    record { listed = x.listed; term = Some (head_of site row); around = head (kinds_in o) ∷ x.around }
+opened_by a o row x = opening (inside a (inner (kinds_in o))) x
+
+-- what a term of a list does, whose terms inside it declare nothing
+abbrev pub done_by : Option Head → ℕ × ℕ → Heard → Result Heard LoadFault
+done_by None span x = Ok x
+done_by (Some h) span x = do
+  y ← enter h x.listed span
+  Ok (record x { listed = y.0; term = None })
+
+-- behind the tail of an opcode
+abbrev pub closed_by : Around → ℕ × ℕ → Heard → Result Heard LoadFault
+closed_by (head ks) span x = do
+  y ← done_by x.term span (left x)
+  Ok (behind_term y)
+closed_by a span x = Ok (behind_term (left x))
+
+-- the terms inside a term
+abbrev pub entered_by : Option Where → Around
+entered_by (Some site) = terms site
+entered_by None = nowhere
+
+abbrev pub inside_by : Option Head → Heard → Result Heard LoadFault
+inside_by None x = Ok (opening nowhere x)
+inside_by (Some h) x = do
+  y ← enter h x.listed (0, 0)
+  Ok (record { listed = y.0; term = None; around = entered_by y.1 ∷ x.around })
+
+-- a list, by the opcode around it: the terms of a term of a list; or others
+abbrev pub is_own_terms : Around → TailKind → Bool
+is_own_terms (head ks) tails.Terms = true
+is_own_terms _ k = false
+
+abbrev pub list_in : Around → TailKind → Around
+list_in (head ks) tails.Fields = units
+list_in (head ks) k = elements
+list_in (inner ks) tails.Terms = nowhere
+list_in (inner ks) k = elements
+list_in _ k = nowhere
+
+abbrev pub list_by : Around → TailKind → Heard → Result Heard LoadFault
+list_by a k x = cond (is_own_terms a k) (inside_by x.term x) (Ok (opening (list_in a k) x))
+
+-- an element of a field list
+abbrev pub with_unit : Field → Head → Head
+with_unit u h = record h { units = h.units ++ unit_names (field_more u no_fields) }
+
+abbrev pub unit_by : Around → Field → Heard → Heard
+unit_by units u x = record x { term = option_map (with_unit u) x.term }
+unit_by a u x = x
+
+-- what is heard behind a piece, or the fault at which the load stops
+abbrev pub hear : Told → Heard → Result Heard LoadFault
+hear absent x = Ok (behind_term x)
+hear (name n count) x = Ok (opening (inside (top x.around) arguments) (asked n count x))
+hear (end_of_call count) x = Ok (behind_term (left x))
+hear (opcode o row w count) x = Ok (opened_by (top x.around) o row x)
+hear (part p) x = Ok (behind_part (noted p) x)
+hear (tail t) x = closed_by (top x.around) (body_span t) x
+hear (list k) x = list_by (top x.around) k x
+hear (end_of_list k level) x = closed_by (top (drop 1 x.around)) (0, 0) (left x)
+hear (field u) x = Ok (unit_by (top x.around) u x)
+hear _ x = Ok x
+
+-- pieces, one after the other
+abbrev pub hear_all : List Told → Heard → Result Heard LoadFault
+hear_all [] x = Ok x
+hear_all (p ∷ ps) x = do
+  y ← hear p x
+  hear_all ps y
+
+-- what is heard behind the terms of a list, by what they declare
+abbrev pub behind_terms : Where → List Around → Result Listed LoadFault → Result Heard LoadFault
+behind_terms site outer declared = do
+  l ← declared
+  Ok (record { listed = l; term = None; around = terms site ∷ outer })

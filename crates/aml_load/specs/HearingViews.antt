@@ -1,0 +1,208 @@
+-- A stepping stone: what is heard of a table's terms, as the code keeps it.
+use Rattle.std.specs.Prelude.{◌≡◌, ◌<◌, ℕ, false, List, [], ◌∷◌, Option, Some, None, Result, Ok, Err, drop, length, map, reverse, IfSome, IfOk, OnOk}
+use Rattle.std.specs.List.{AllByRecursion}
+use Rattle.std.specs.Option.{option_map, option_or}
+use Rattle.std.specs.Coded.{×_prop, Unit-prop, le_prop}
+use Rattle.aml_code.specs.Lawful.{plain_name}
+use Rattle.aml_names.specs.declared.names.Name.{Name}
+use Rattle.aml_namespace.specs.Known.{Known}
+use Rattle.aml_load.specs.Declaring.{◌>>=◌, Listed, kinds_in, strict}
+use Rattle.aml_load.specs.Hearing.{Around, Head, Heard, hear_all, enter, terms, head, inner, arguments, elements, units, nowhere}
+use Rattle.aml_load.specs.Walking.{at_site, Holds}
+use Rattle.aml_namespace.specs.Known.{StandsFor}
+use Rattle.aml_set.specs.declared.tables.TableSet.{TableSet}
+use Rattle.aml_set.specs.Views.{methods_of_set}
+use Rattle.aml_code.specs.declared.rows.Role.{Role}
+use Rattle.aml_code.specs.declared.rows.Role.TheVariants as roles
+use Rattle.aml_load.specs.Loading.{Where, methods_of}
+use Rattle.aml_load.specs.declared.uses.Site.{Site}
+use Rattle.aml_load.specs.declared.walking.Progress.{Progress}
+use Rattle.aml_load.specs.Kept.{TellsCode}
+use Rattle.aml_load.specs.Tables.{Fails, table_at}
+use Rattle.aml_load.specs.declared.faults.LoadFault.{LoadFault}
+use Rattle.aml_load.specs.declared.hearing.Around.{Around as KeptAround}
+use Rattle.aml_load.specs.declared.hearing.Around.TheVariants as kept
+use Rattle.aml_load.specs.declared.hearing.Noted.{Noted}
+use Rattle.aml_load.specs.declared.hearing.Noted.TheVariants as noted
+use Rattle.aml_code.specs.Pieces.{Told}
+use Rattle.aml_code.specs.Tree.{nothing, Part, Trees, child, label, byte}
+use Rattle.aml_load.specs.declared.hearing.Head.{Head as KeptHead}
+use Rattle.aml_load.specs.declared.hearer.TableHearing.{TableHearing}
+use Rattle.aml_load.specs.declared.hearing.Hearing.{Hearing}
+
+abbrev pub around_view : Known → KeptAround → Around
+around_view k (kept.Terms s) = terms (at_site k s)
+around_view k (kept.Head o told) = head (drop told (kinds_in o))
+around_view k (kept.Inner o told) = inner (drop told (kinds_in o))
+around_view k kept.Arguments = arguments
+around_view k kept.Elements = elements
+around_view k kept.Units = units
+around_view k kept.Nowhere = nowhere
+
+-- the last name among the parts
+abbrev pub last_of : KeptHead → Option Name
+last_of h = option_or h.later h.source
+
+abbrev pub head_view : Known → KeptHead → Head
+head_view k h = record {
+  site = at_site k h.site;
+  declaring = h.declaring;
+  role = h.role;
+  begun = h.begun;
+  source = h.source;
+  last = last_of h;
+  byte = h.byte;
+  units = map plain_name h.units.items;
+}
+
+-- what is noted of a part
+abbrev pub noted_view : Noted → Part
+noted_view (noted.Label n) = label n.now
+noted_view (noted.Byte b) = byte b
+noted_view noted.Other = child nothing
+
+abbrev pub stack_view : Known → List KeptAround → List Around
+stack_view k kept = reverse (map (around_view k) kept)
+
+-- what is heard, where this is listed
+abbrev pub heard_by : Hearing → Listed → Heard
+heard_by h l = record {
+  listed = l;
+  term = option_map (head_view h.progress.space) h.head;
+  around = stack_view h.progress.space h.around.items;
+}
+
+-- the scopes have numbers
+abbrev pub IsNumbered : Known → KeptAround → Type 0
+IsNumbered k (kept.Terms s) = s.scope < length k.paths
+IsNumbered k _ = Unit {0}
+
+abbrev pub IsHeadNumbered : Known → Option KeptHead → Type 0
+IsHeadNumbered k h = IfSome h (λ x. x.site.scope < length k.paths)
+
+pub record AreNumbered (k : Known) (h : Hearing) : Type 0 where
+  pub head : IsHeadNumbered k h.head
+  pub around : AllByRecursion (IsNumbered k) h.around.items
+
+-- one step, whatever is listed before it
+pub record Hears (old new : Hearing) (step : Heard → Result Heard LoadFault) : Type 0 where
+  pub heard : (l : Listed) → Holds old.progress l
+      → (m : Listed) × Holds new.progress m × (step (heard_by old l) ≡ Ok (heard_by new m))
+  pub numbered : AreNumbered new.progress.space new
+
+-- the fault of a step, whatever is listed before it, unless memory was refused
+abbrev pub StopsBy : Hearing → (Heard → Result Heard LoadFault) → LoadFault → Type 0
+StopsBy old step e = (l : Listed) → Holds old.progress l → Fails e (step (heard_by old l))
+
+-- one step, which declares nothing
+pub record Goes (old new : Hearing) (step : Heard → Heard) : Type 0 where
+  pub progress : new.progress ≡ old.progress
+  pub heard : (l : Listed) → heard_by new l ≡ step (heard_by old l)
+  pub numbered : AreNumbered old.progress.space old → AreNumbered new.progress.space new
+
+-- ---- What a term does by its head.
+
+abbrev pub none_in : {X : Type 0} → Result X LoadFault → Result (Option Site) LoadFault
+none_in (Ok x) = Ok None
+none_in (Err e) = Err e
+
+-- what was made of the progress, and where the terms inside stand, if they declare
+abbrev pub Entered : Progress → Result (Option Site) LoadFault → Result (Listed × Option Where) LoadFault → Type 0
+Entered new (Ok s) step = (m : Listed) × Holds new m × (step ≡ Ok (m, option_map (at_site new.space) s))
+Entered new (Err e) step = Fails e step
+
+-- the same of a term inside which no terms declare
+abbrev pub EntersFlat : Progress → Progress → Result (Option Site) LoadFault
+    → (Listed → Result (Listed × Option Where) LoadFault) → Role → Type 0
+EntersFlat old new answer step (roles.Declares o) = Unit {0}
+EntersFlat old new answer step roles.Scope = Unit {0}
+EntersFlat old new answer step roles.Guard = Unit {0}
+EntersFlat old new answer step role = (l : Listed) → Holds old l → Entered new answer (step l)
+
+abbrev pub EntersPlain : {X : Type 0} → Progress → Progress → Result X LoadFault
+    → (Listed → Result (Listed × Option Where) LoadFault) → Role → Type 0
+EntersPlain old new answer step role = EntersFlat old new (none_in answer) step role
+
+-- what the term that isn't told whole does, and where the terms inside it stand
+abbrev pub finish_by : Option Head → Listed → ℕ × ℕ → Result (Listed × Option Where) LoadFault
+finish_by None l span = Ok (l, None)
+finish_by (Some h) l span = enter h l span
+
+-- the term is told whole then, and around it stands what stood there
+pub record Finishes (old new : Hearing) (answer : Result (Option Site) LoadFault) (span : ℕ × ℕ) : Type 0 where
+  pub entered : (l : Listed) → Holds old.progress l
+      → Entered new.progress answer (finish_by (option_map (head_view old.progress.space) old.head) l span)
+  pub around : OnOk answer (stack_view new.progress.space new.around.items ≡ stack_view old.progress.space old.around.items)
+  pub head : OnOk answer (new.head ≡ None)
+  pub numbered : OnOk answer (AreNumbered new.progress.space new)
+  pub inside : IfOk answer (λ site. IfSome site (λ s. s.scope < length new.progress.space.paths))
+
+-- ---- A table, whose terms are told.
+
+-- before the first term of table t
+abbrev pub begun : ℕ → Listed → Heard
+begun t l = record { listed = l; term = None; around = terms (strict t []) ∷ [] }
+
+-- the scopes of what isn't stopped have numbers; and in one way
+abbrev pub HasNumbers : Hearing → Option LoadFault → Type 0
+HasNumbers h None =
+    IsHeadNumbered h.progress.space h.head × AllByRecursion (IsNumbered h.progress.space) h.around.items
+HasNumbers h (Some e) = Unit {0}
+
+one_numbered : (k : Known) (a : KeptAround) → IsProp (IsNumbered k a)
+one_numbered k (kept.Terms s) = le_prop
+one_numbered k (kept.Head o told) = Unit-prop
+one_numbered k (kept.Inner o told) = Unit-prop
+one_numbered k kept.Arguments = Unit-prop
+one_numbered k kept.Elements = Unit-prop
+one_numbered k kept.Units = Unit-prop
+one_numbered k kept.Nowhere = Unit-prop
+
+all_numbered : (k : Known) (xs : List KeptAround) → IsProp (AllByRecursion (IsNumbered k) xs)
+all_numbered k [] = Unit-prop
+all_numbered k (a ∷ xs) = ×_prop (one_numbered k a) (all_numbered k xs)
+
+head_numbered : (k : Known) (h : Option KeptHead) → IsProp (IsHeadNumbered k h)
+head_numbered k None = Unit-prop
+head_numbered k (Some h) = le_prop
+
+pub HasNumbers-prop : (h : Hearing) (f : Option LoadFault) → IsProp (HasNumbers h f)
+HasNumbers-prop h None = ×_prop (head_numbered h.progress.space h.head) (all_numbered h.progress.space h.around.items)
+HasNumbers-prop h (Some e) = Unit-prop
+
+-- what was heard, and is kept so: what is listed is held; or the fault at which it stopped
+abbrev pub SaysBy : Hearing → Option LoadFault → Result Heard LoadFault → Type 0
+SaysBy h None r = (l : Listed) × Holds h.progress l × (r ≡ Ok (heard_by h l))
+SaysBy h (Some e) r = r ≡ Err e
+
+abbrev pub Says : Hearing × Option LoadFault → Result Heard LoadFault → Type 0
+Says s r = SaysBy s.0 s.1 r
+
+-- between two states these pieces were told
+abbrev pub Grew : Hearing × Option LoadFault → Hearing × Option LoadFault → List Told → Type 0
+Grew a b ps = (r : Result Heard LoadFault) → Says a r → Says b (r >>= λ x. hear_all ps x)
+
+-- what is answered behind the last piece
+abbrev pub Ended : Result Progress LoadFault → Result Heard LoadFault → Type 0
+Ended (Ok p) r = (x : Heard) × Holds p x.listed × (r ≡ Ok x)
+Ended (Err e) r = r ≡ Err e
+
+-- what a table made of the progress, which keeps no terms
+abbrev pub TableHeard : {X : Type 0} → (X → Progress) → Result X LoadFault → Result (Trees × Listed) LoadFault → Type 0
+TableHeard of (Ok x) walk = (ts : Trees) × (m : Listed) × Holds (of x) m × (walk ≡ Ok (ts, m))
+TableHeard of (Err e) walk = Fails e walk
+
+-- the same of several
+abbrev pub TablesHeard : {X : Type 0} → (X → Progress) → Result X LoadFault → Result (List Trees × Listed) LoadFault → Type 0
+TablesHeard of (Ok x) walk = (trees : List Trees) × (m : Listed) × Holds (of x) m × (walk ≡ Ok (trees, m))
+TablesHeard of (Err e) walk = Fails e walk
+
+-- a table that is told so makes this of what was made before it
+pub record TellsTable (t : TableHearing) (made : Result Progress LoadFault) (ps : List Told) : Type 0 where
+  pub heard : (l : Listed) → Holds t.progress l → TableHeard (λ x. x) made (table_at false t.table l t.code.now)
+  pub pieces : TellsCode t.code.now ps
+
+-- a set that holds what is listed, where each name outside the methods takes as many arguments as were read with it
+abbrev pub IsChecked : Result TableSet LoadFault → Listed → Result (Unit {0}) LoadFault → Type 0
+IsChecked (Ok x) l uses = StandsFor x.space l.entries × (methods_of_set x ≡ methods_of l.entries) × (uses ≡ Ok tt)
+IsChecked (Err e) l uses = Fails e uses
