@@ -64,11 +64,6 @@ def alias(segment, source=LEAF):
     return b"\x06" + source + segment
 
 
-def region(segment, numbers):
-    """A region with this offset and this length."""
-    return b"\x5b\x80" + segment + b"\0" + numbers
-
-
 def block(code):
     return package(b"\xa0", b"\x01" + code)
 
@@ -129,7 +124,7 @@ def upward_turning(count, depth):
 
 def regions(count, depth, value):
     """Regions in a deep scope, with a name as their offset and their length."""
-    return within(depth, each(count, lambda it: region(it, value + value)))
+    return within(depth, each(count, lambda it: b"\x5b\x80" + it + b"\0" + value * 2))
 
 
 def deep_methods(count, depth):
@@ -201,11 +196,6 @@ def maybe_aliases(count):
     return method(LEAF, 1, b"") + block(alias(NEAR)) * count + main_method((NEAR + b"\x01") * count)
 
 
-def names_outside(count, depth):
-    """A name at the root, as so many terms of a deep scope."""
-    return LEAF_NAME + within(depth, LEAF * count)
-
-
 # ---- much of the same
 
 
@@ -262,11 +252,6 @@ def led(names, width, more):
         names[3]: table(b"DSDT", b""), **{it: table(b"SSDT", b"") for it in names[4:]},
         "tables.map": "".join(f"{places[it]:016X} {it}\n" for it in names).encode(),
     }
-
-
-def listed(entries):
-    """Five hundred SSDTs with addresses, and an XSDT that lists so many, the last of them again and again."""
-    return led(["rsdp.dat", "xsdt.dat", *LED, *(f"ssdt{number}.dat" for number in range(500))], 8, entries - 501)
 
 
 # ---- all of them
@@ -379,10 +364,12 @@ SHAPES = (
     one("maybe-aliases", 12_000, "Aliases", maybe_aliases, any_run=True, is_square=True),
     one("maybe-aliases-deep", 1_000, "Aliases", lambda count:
         within(10_000, maybe_aliases(count)), any_run=True, is_square=True),
-    one("names-outside", 8_000, "names", lambda count: names_outside(count, DEEPEST), any_run=True),
+    # A name at the root, as so many terms of a deep scope
+    one("names-outside", 8_000, "names", lambda count: LEAF_NAME + within(DEEPEST, LEAF * count), any_run=True),
     # Regions in a deep scope, whose offset and length are a name at the root
     one("regions-outside", 1_000, "regions", lambda count: LEAF_NAME + regions(count, DEEPEST, LEAF), any_run=True),
-    one("terms-outside", 1_000_000, "names", lambda count: names_outside(count, 2 * SEGMENTS), any_run=True),
+    one("terms-outside", 1_000_000, "names", lambda count:
+        LEAF_NAME + within(2 * SEGMENTS, LEAF * count), any_run=True),
     # A Field in a deep scope, whose connections are Buffers of a size that is a name which nothing declares
     one("connections-outside", 100_000, "names", lambda count:
         within(9 * SEGMENTS, package(b"\x5b\x81", NEAR + b"\1" + (b"\2\x11\5" + LEAF) * count))),
@@ -413,7 +400,9 @@ SHAPES = (
     Shape("tables", 512, "files", lambda count: calling_tables(count, 500, 1)),
     Shape("madt", MOST_BYTES, "bytes", lambda size:
         {**tables(b""), "apic.dat": table(b"APIC", bytes(8) + b"\xff\x02" * ((size - 44) // 2))}),
-    Shape("listed", 2_000_000, "entries", listed),
+    # Five hundred SSDTs with addresses, and an XSDT that lists so many, the last of them again and again
+    Shape("listed", 2_000_000, "entries", lambda count:
+        led(["rsdp.dat", "xsdt.dat", *LED, *(f"ssdt{number}.dat" for number in range(500))], 8, count - 501)),
     # An RSDT that lists a file again and again, each byte of whose long name is four in the text
     Shape("named-entries", 262_144, "entries", lambda it: led(["rsdp.dat", "rsdt.dat", *LED, LONG_NAME], 4, it - 2)),
 )  # fmt: skip

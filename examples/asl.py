@@ -25,7 +25,7 @@ from collections import namedtuple
 
 from acpidis_tools import command
 from acpidis_tools.asl import forms, language
-from acpidis_tools.asl.blocks import Block, MethodBlock, Reader, Refused
+from acpidis_tools.asl.blocks import Block, MethodBlock, Reader
 from acpidis_tools.asl.names import said_by
 from acpidis_tools.listing import NoListing
 
@@ -46,9 +46,9 @@ def of_listing(asked):
     reader.read(asked.listing)
     found = [method for block in reader.blocks for method in block.found] if asked.method else reader.blocks
     if not found:
-        raise Refused(f"it declares no method {asked.method}")
+        raise NoListing(f"it declares no method {asked.method}")
     if asked.method and len(found) > 1:
-        raise Refused(f"it declares {asked.method} on the lines {', '.join(str(method.number) for method in found)}")
+        raise NoListing(f"it declares {asked.method} on the lines {', '.join(str(method.number) for method in found)}")
     rows = reader.rows if len(reader.rows) * len(found) <= MOST_EXTERNALS else []
     said = said_by(reader.blocks)
     return reader.blocks, [Made(it.table, it.text(rows, said), it.told) for it in found]

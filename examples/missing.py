@@ -22,7 +22,7 @@ import re
 import sys
 import tempfile
 
-from acpidis_tools import command, paths, running
+from acpidis_tools import aml, command, paths, running
 from acpidis_tools.errors import name_in
 
 COUNTS = range(8)
@@ -48,11 +48,9 @@ class Body:
         if name is None:
             what = f"no name stands at {self.at} of a body that wants one: is this another version of acpidis?"
             raise running.Unusable(what)
-        if name.is_searched():
-            return paths.joined(name.segments)  # looked for in every scope above: the root's is found from each
-        scope = [] if name.root else paths.parts(self.path)
-        left = len(scope) - name.ups
-        return paths.joined(scope[:left] + name.segments) if left >= 0 else None
+        space = aml.Space(0)
+        place = space.given_place(space.node(self.path), name)
+        return place and place.path()
 
 
 def bodies_of(run):

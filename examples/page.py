@@ -84,10 +84,8 @@ def sheet_of(asked: argparse.Namespace) -> Sheet:
 
 def main() -> None:
     words = command.parser(__doc__, "LISTING")
-    words.add_argument("--errors", metavar="FILE")
-    words.add_argument("--compare", metavar="OTHER")
-    words.add_argument("--name", metavar="NAME")
-    words.add_argument("--only", metavar="WHAT")
+    for option, value in {"--errors": "FILE", "--compare": "OTHER", "--name": "NAME", "--only": "WHAT"}.items():
+        words.add_argument(option, metavar=value)
     sys.stdout.write(page(sheet_of(words.parse_args())))
 
 

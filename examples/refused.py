@@ -199,8 +199,7 @@ def say_counts(found, reader, uses):
         elif found.any_run and not known and use.name.segments and use.name.segments[-1] in ahead:
             at, count = ahead[use.name.segments[-1]]
             yield f"  nothing tells of {use.name} before it; a Method of {counted(count)} may stand at offset {at}"
-            # As a line for --externals wants it: the root's is found from each scope
-            place = found.space.place(found.space.root if use.name.is_searched() else use.scope, use.name)
+            place = found.space.given_place(use.scope, use.name)
             path = path_of(place) if place else "?"
             yield f"  a line `{path} {count}` in the file of --externals would tell it"
 

@@ -98,8 +98,7 @@ def check_sets(checks, count, folders):
     jobs = [(name, dumps_of(files), Options(any_run=True)) for name, files in SAMPLES.items()]
     jobs += [("demo", read_folder(DEMO), Options())]
     jobs += [(f"plain{seed}", dumps_of(plain_set(seed)), Options()) for seed in range(count)]
-    for folder in folders:
-        jobs.append((f"of_{folder.name}", read_folder(folder), Options(any_run=True, any_sum=True)))
+    jobs += [(f"of_{it.name}", read_folder(it), Options(any_run=True, any_sum=True)) for it in folders]
     with concurrent.futures.ThreadPoolExecutor(os.cpu_count()) as pool:
         list(pool.map(lambda job: check_set(checks, *job), jobs))
     if IASL:
@@ -109,8 +108,6 @@ def check_sets(checks, count, folders):
 # ---- what ASL hasn't got
 
 ROWS = ["\\FOO_ Method 1", "\\BAR_ Name", "\\DEV0 Device", "\\DEV0._STA Method 0"]
-CALLED = "External (NEW0, 0x08, 0x01)\n    NEW0 (One)"
-BY_PATH = "an External of a method that is called, by a name that isn't from the root"
 SCOPED = "FOO_ (One)\n  }\n  Scope (FOO_) {", "FOO_ as a call, where nothing says that it is a method"
 WIDE = "0x1122334455667788"
 WHOLE = text_of(ROWS, ["Method (FOO_, 1, NotSerialized, 0) {", "  Noop", "}"], "a.dat")
@@ -144,9 +141,8 @@ def text_with(body, revision=2):
 def check_told(checks):
     rows = [(body.replace("\\n", "\n    "), what, 9, 2) for body, what in BODIES]
     rows += [(f"Field (REG0, 0x01) {{\n      {unit}\n    }}", what, 10, 2) for unit, what in UNITS]
-    rows += [(*SCOPED, 9, 2), (CALLED, BY_PATH, 9, 2)]
     wide = f"{WIDE} in a table of revision 1, whose integers have 4 bytes"
-    for body, what, number, revision in [*rows, (f"Store ({WIDE}, Local0)", wide, 9, 1)]:
+    for body, what, number, revision in [*rows, (*SCOPED, 9, 2), (f"Store ({WIDE}, Local0)", wide, 9, 1)]:
         text = checks.text("told.text", text_with(body, revision))
         checks.says(body, [ASL, text, "told"], 3, f"asl: a.dat: line {number}: {what}\n")
 

@@ -33,9 +33,9 @@ BOUNDED = {
     "names-outside": 128, "regions-outside": 128, "terms-outside": 64, "connections-outside": 64, "deep-owners": 64,
     "deep-owners-run": 128, "deep-pairs": 64, "maybe-aliases": 64, "maybe-aliases-deep": 64,
 }  # fmt: skip
-MOST_SECONDS, STARTED_BYTES = 2, 40_000_000
 # The same of a quarter of a shape that is listed: its tables keep no terms, which would take 40 bytes and more.
 TOLD = {"scopes": 16, "external": 16}
+MOST_SECONDS, STARTED_BYTES = 2, 40_000_000
 
 
 def count_calls(program, shim, folder):
@@ -51,8 +51,8 @@ def count_calls(program, shim, folder):
     return len(ran.stdout), writes, freed
 
 
-def costs_of(program, folder, make, options=("--check",)):
-    """What a run of a set takes, most often a check, which writes no text."""
+def costs_of(program, folder, make, *options):
+    """What a run of a set takes."""
     measuring.write(folder, make)
     answer = run([program, "--workers", "1", *options, "."], 60, cwd=folder)
     assert answer.status in (0, 3), (folder, answer)
@@ -70,19 +70,15 @@ def measure(program, room):
     yield "blocks let go behind the last write", freed, MOST_FREED
     yield "page faults of a small set", small.faults - least.faults, MOST_FAULTS
     for name, (make, most) in SHAPES.items():
-        answer = costs_of(program, room / name, lambda: tables(make()))
+        answer = costs_of(program, room / name, lambda: tables(make()), "--check")
         yield f"seconds: {name}", round(answer.processor, 2), most
-    for shape in (it for it in shapes.SHAPES if it.name in BOUNDED):
-        folder = room / shape.name
-        answer = costs_of(program, folder, lambda: shape.make(shape.size), ["--check", *shape.options(folder)])
-        most = STARTED_BYTES + BOUNDED[shape.name] * sum(file.stat().st_size for file in folder.iterdir())
+    for shape in (it for it in shapes.SHAPES if it.name in BOUNDED | TOLD):
+        folder, is_told = room / shape.name, shape.name in TOLD
+        options = shape.options(folder) if is_told else ["--check", *shape.options(folder)]
+        answer = costs_of(program, folder, lambda: shape.make(shape.size // (4 if is_told else 1)), *options)
+        most = STARTED_BYTES + (BOUNDED | TOLD)[shape.name] * sum(file.stat().st_size for file in folder.iterdir())
         yield f"seconds: {shape.name}", round(answer.processor, 2), MOST_SECONDS
         yield f"bytes of memory: {shape.name}", answer.peak, most
-    for shape in (it for it in shapes.SHAPES if it.name in TOLD):
-        folder = room / f"{shape.name}-listed"
-        answer = costs_of(program, folder, lambda: shape.make(shape.size // 4), ())
-        most = STARTED_BYTES + TOLD[shape.name] * sum(file.stat().st_size for file in folder.iterdir())
-        yield f"bytes of memory, listed: {shape.name}", answer.peak, most
 
 
 def main():

@@ -36,29 +36,27 @@ def facts_of(data: bytes, room: pathlib.Path) -> "dict[str, list] | None":
     }
 
 
-def behind(text: str, at: int, pair: str) -> int:
-    """The offset behind what closes the brace or parenthesis in front of an offset."""
-    depth = 1
-    while depth:
-        found = re.compile(f"[{re.escape(pair)}]").search(text, at)
-        depth, at = depth + (1 if found[0] == pair[0] else -1), found.end()
-    return at
+def enclosed(text: str, heads: str):
+    """Where what stands behind each of these heads begins and ends, up to what closes the bracket at the head's end."""
+    for head in re.finditer(heads, text):
+        at, depth, (left, right) = head.end(), 1, {"{": "{}", "(": "()"}[head[0][-1]]
+        while depth:
+            depth += (text[at] == left) - (text[at] == right)
+            at += 1
+        yield head.end(), at - 1
 
 
 def templates(text: str) -> "list[str]":
     """What stands in the braces of each ResourceTemplate, whose macros may have braces of their own, and in the
     parentheses of each Connection."""
-    heads = re.finditer(r"ResourceTemplate \(\)\s*\{|Connection \(", text)
-    return [text[head.end():behind(text, head.end(), {"{": "{}", "(": "()"}[head[0][-1]]) - 1] for head in heads]
+    return [text[start:end] for start, end in enclosed(text, r"ResourceTemplate \(\)\s*\{|Connection \(")]
 
 
 def without_connections(text: str) -> str:
     """The text without what stands in the parentheses of each Connection."""
-    kept, at = [], 0
-    for head in re.finditer(r"Connection \(", text):
-        kept.append(text[at:head.end()])
-        at = behind(text, head.end(), "()")
-    return "".join([*kept, text[at:]])
+    for start, end in reversed(list(enclosed(text, r"Connection \("))):
+        text = text[:start] + text[end:]
+    return text
 
 
 def units(text: str):

@@ -179,18 +179,20 @@ def scopes_of_no_scope():
     return by_workers("Scopes of what is no scope", code)
 
 
-def of_one_method(name, body, lines):
-    """The listing and the check of a table that has one method, whose body has these lines."""
-    code = method(b"MAIN", 0, body)
-    head = [f"{BEGUN}{HEADER_LENGTH + len(code)}{ENDED}", "Namespace 1\n", "  \\MAIN Method 0\n"]
-    block = [f'DefinitionBlock ("{BLOCK}") {{\n', "  Method (MAIN, 0, NotSerialized, 0) {\n", *lines, "  }\n", "}\n"]
-    yield Trial(name, tables(code), LIST, Outcome(DONE, "".join(head + block), ""))
-    yield Trial(name, tables(code), CHECK, Outcome(DONE, check_line(BLOCK, len(code), 1, 0), ""))
+def of_methods(name, code, names, lines=()):
+    """The listing and the check of a table of methods of these names, whose bodies have these lines."""
+    rows = [f"  \\{it} Method 0\n" for it in names]
+    block = [line for it in names for line in (f"  Method ({it}, 0, NotSerialized, 0) {{\n", *lines, "  }\n")]
+    head = f"{BEGUN}{HEADER_LENGTH + len(code)}{ENDED}Namespace {len(names)}\n"
+    text = "".join([head, *rows, f'DefinitionBlock ("{BLOCK}") {{\n', *block, "}\n"])
+    yield Trial(name, tables(code), LIST, Outcome(DONE, text, ""))
+    yield Trial(name, tables(code), CHECK, Outcome(DONE, check_line(BLOCK, len(code), len(names), 0), ""))
 
 
 def a_long_body():
     count = 100_000
-    return of_one_method("a long body", b"\xA4\x72\x60\x61\x00" * count, ["    Return (Add (Local0, Local1, ))\n"] * count)
+    code = method(b"MAIN", 0, b"\xA4\x72\x60\x61\x00" * count)
+    return of_methods("a long body", code, ["MAIN"], ["    Return (Add (Local0, Local1, ))\n"] * count)
 
 
 def parent_prefixes():
@@ -200,27 +202,16 @@ def parent_prefixes():
     above = refused(f'table "{BLOCK}": AboveRoot')
     yield Trial("a declared name of ^", tables(b"\x08" + name + b"\0"), LIST, above)
     name = b"^" * (room - METHOD_LENGTH - 5) + b"BBBB"
-    yield from of_one_method("a target of ^", b"\x71" + name, [f"    RefOf ({name.decode()})\n"])
-
-
-def lines_of_empty_methods(names):
-    """Their listing as the AML of a table, line by line."""
-    yield f"{BEGUN}{HEADER_LENGTH + 7 * len(names)}{ENDED}"
-    yield f"Namespace {len(names)}\n"
-    yield from (f"  \\{name} Method 0\n" for name in names)
-    yield f'DefinitionBlock ("{BLOCK}") {{\n'
-    yield from (f"  Method ({name}, 0, NotSerialized, 0) {{\n  }}\n" for name in names)
-    yield "}\n"
+    code = method(b"MAIN", 0, b"\x71" + name)
+    yield from of_methods("a target of ^", code, ["MAIN"], [f"    RefOf ({name.decode()})\n"])
 
 
 def the_most_methods():
     """The limit is met before the place of a name is looked at. A set has one limit, whichever tables have the methods."""
     names = [segment(number).decode() for number in range(MOST_METHODS)]
     code = b"".join(b"\x14\x06%s\0" % name.encode() for name in names)
-    most, above, more = tables(code), b"\x14\x07^ABCD\0", b"\x14\x06ZZZZ\0"
-    text, checked = "".join(lines_of_empty_methods(names)), check_line(BLOCK, len(code), MOST_METHODS, 0)
-    yield Trial("the most methods", most, LIST, Outcome(DONE, text, ""))
-    yield Trial("the most methods", most, CHECK, Outcome(DONE, checked, ""))
+    above, more = b"\x14\x07^ABCD\0", b"\x14\x06ZZZZ\0"
+    yield from of_methods("the most methods", code, names)
     for name, files, fault in [
         ("a method too many", tables(code + more), "TooManyMethods"),
         ("a method too many in an SSDT", tables(code, more), "TooManyMethods"),

@@ -6,9 +6,8 @@ from html.parser import HTMLParser
 
 from loading import path_text
 from acpidis_tools.page.sheet import BETWEEN, unpacked
+from telling import Path, Told
 
-Path = tuple[str, ...]
-Told = tuple[str, str, object, tuple]
 VOID = ("meta", "input")
 
 

@@ -17,7 +17,7 @@ from collections.abc import Callable
 
 PLACES = [pathlib.Path(__file__).resolve().parent.parent / it for it in ("tests/oracle", "tests", "examples", "bench")]
 sys.path[1:1] = map(str, PLACES)
-from trying import PROGRAM, TOP, asked, end, first_difference, run  # noqa: E402, F401
+from trying import PROGRAM, TOP, asked, end, first_difference, run, written  # noqa: E402, F401
 
 DEMO = TOP / "crates/acpidis_program/data/demo"
 
@@ -65,14 +65,6 @@ class Tally:
         """A file of the room with this text."""
         (self.room / name).write_text(text, encoding)
         return self.room / name
-
-
-def written(folder: pathlib.Path, files: dict[str, bytes]) -> pathlib.Path:
-    """A new folder with files of these contents, by their names."""
-    folder.mkdir(parents=True)
-    for name, data in files.items():
-        (folder / name).write_bytes(data)
-    return folder
 
 
 def parts_in(name: str) -> list[tuple[str, str]]:

@@ -8,7 +8,8 @@ constant, for one with a goal that it can't show, and can't read the word UNREAD
 import pathlib
 import re
 
-from tally import TOP, Tally, executable, module_of
+from tally import TOP, Tally, executable
+import wrong_bodies as tried
 
 TESTS = TOP / "tests"
 # What tests/verdicts.txt has: the function, the verdict, words of its reason, and what was printed; then files
@@ -57,27 +58,26 @@ class Crate:
         return ["--crate-name", self.name, "src/lib.rt", *flags]
 
 
-def check_trials(checks, tried, room):
+def check_trials(checks, room):
     """Whether each trial gets the verdicts that it has to, by as many checks."""
-    tried.TOP, log = room, f"{room}/log"
+    tried.TOP, log = room, pathlib.Path(room, "log")
     files = {f"crates/{Crate.name}/{name}": text for name, text in SOURCES.items()}
     for name, text in {**files, "prover": PROVER.format(log=log)}.items():
         executable(pathlib.Path(room, name), text)
     kit = type("Kit", (), {"RATTLE": f"{room}/prover"})
     for count, bodies in TRIALS:
-        tried.write(log, "")
+        log.write_text("")
         waiting = [
             tried.WrongBody(name, [(file, old, new)], {tried.place_at(file, SOURCES[file], SOURCES[file].index(old))})
             for name, file, old, new, *_ in bodies
         ]
         found = dict(tried.judged(kit, Crate(), waiting, f"{room}/kept", is_seeded=False))
-        runs, wanted = tried.read(log).splitlines(), {name: (kind, words) for name, *_, kind, words in bodies}
+        runs, wanted = log.read_text().splitlines(), {name: (kind, words) for name, *_, kind, words in bodies}
         told = {name: (it.kind, wanted[name][1] in it.reason and wanted[name][1]) for name, it in found.items()}
         checks.is_same(f"{', '.join(wanted)}: {found} by {runs}", (told, len(runs)), (wanted, count))
 
 
 def main():
-    tried = module_of("wrong_bodies", TESTS / "wrong_bodies.py")
     places = {
         "read_name": tried.Place("reading", "reading::read_name", None),
         "encode_node": tried.Place("encode", "encode::encode_node", "encode"),
@@ -91,7 +91,7 @@ def main():
             verdict = tried.verdict_of(body, *tried.read_output(printed, proofs), printed)
             is_right = str(verdict.kind) == kind and words in verdict.reason
             checks.is_so(f"wanted {kind} with '{words}', got {verdict} of:\n{printed}", is_right)
-        check_trials(checks, tried, str(checks.room))
+        check_trials(checks, str(checks.room))
 
 
 if __name__ == "__main__":

@@ -27,16 +27,15 @@ without it.
 What this file adds to `rt must-fail` is which bodies go together in a check, and whose goal was refused.
 """
 
-import argparse
 import collections
 import concurrent.futures
-import glob
 import os
 import re
 import shutil
 import subprocess
 import sys
 import tempfile
+from pathlib import Path
 
 import tally
 
@@ -65,16 +64,6 @@ def kit():
     """The kit's library, which says how a crate is checked: it lies beside the command rt."""
     command = shutil.which("rt") or sys.exit("the Rattle kit isn't there: its command rt has to be on the PATH")
     return tally.module_of("rtlib", os.path.join(os.path.dirname(os.path.realpath(command)), "rtlib.py"))
-
-
-def read(file):
-    with open(file, encoding="utf-8") as it:
-        return it.read()
-
-
-def write(file, text):
-    with open(file, "w", encoding="utf-8") as it:
-        it.write(text)
 
 
 def name_of(module, block, name):
@@ -135,7 +124,7 @@ def read_wrong_body(name, text, folder):
         elif word == "old":
             old = rest
         elif line.startswith("new:") and file and old:
-            source = sources.get(file) or read(f"{folder}/{file}")
+            source = sources.get(file) or Path(folder, file).read_text()
             if source.count(old) != 1:
                 sys.exit(f"{folder}: {name}: its old text stands {source.count(old)} times in {file}, and not once")
             changes.append((file, old, rest))
@@ -148,9 +137,9 @@ def read_wrong_body(name, text, folder):
 def wrong_bodies(folder, outside):
     """The wrong bodies of a crate: those that the gate tries, or the others."""
     texts = []
-    for file in sorted(glob.glob(f"{folder}/wrong-bodies.edits" if outside else f"{folder}/must-fail/*.edit")):
-        text = read(file)
-        parts = re.split(r"^edit: ", text, flags=re.M)[1:] if outside else [f"{os.path.basename(file)[:-5]}\n{text}"]
+    for file in sorted(Path(folder).glob("wrong-bodies.edits" if outside else "must-fail/*.edit")):
+        text = file.read_text()
+        parts = re.split(r"^edit: ", text, flags=re.M)[1:] if outside else [f"{file.stem}\n{text}"]
         texts += (part.split("\n", 1) for part in parts)
     if len(dict(texts)) < len(texts):
         sys.exit(f"{folder}: two wrong bodies have one name")
@@ -159,7 +148,7 @@ def wrong_bodies(folder, outside):
 
 def sources_in(folder):
     """The sources of a crate, by their paths below it."""
-    return {os.path.relpath(file, folder): read(file) for file in glob.glob(f"{folder}/src/**/*.rt", recursive=True)}
+    return {str(file.relative_to(folder)): file.read_text() for file in Path(folder).glob("src/**/*.rt")}
 
 
 def own_functions(sources):
@@ -229,15 +218,15 @@ def add_copy(crate, lone, source, wrong, room):
     text = re.sub(rf"\bfn {name}\b", f"fn {copied[-1]}", item, count=1)
     for _, old, new in wrong.changes:
         text = text.replace(old, new)
-    beside = read(f"{room}/{file}")
+    beside = Path(room, file).read_text()
     end = next(found.end for found in functions_of(file, beside) if found.place.name == it.place.name)
     end = beside.index("\n", end) + 1
-    write(f"{room}/{file}", f"{beside[:end]}\n{text}{beside[end:]}")
+    Path(room, file).write_text(f"{beside[:end]}\n{text}{beside[end:]}")
     if os.path.isdir(f"{room}/proofs/{'/'.join(path)}"):
         shutil.copytree(f"{room}/proofs/{'/'.join(path)}", f"{room}/proofs/{'/'.join(copied)}")
-    for proof in glob.glob(f"{room}/proofs/{'/'.join(copied)}/*"):
+    for proof in Path(room, "proofs", *copied).glob("*"):
         below = f"Rattle.{crate}.proofs."
-        write(proof, read(proof).replace(f"{below}{'.'.join(path)}.", f"{below}{'.'.join(copied)}."))
+        proof.write_text(proof.read_text().replace(f"{below}{'.'.join(path)}.", f"{below}{'.'.join(copied)}."))
 
 
 def copy_with(crate, batch, room):
@@ -248,10 +237,10 @@ def copy_with(crate, batch, room):
             shutil.copytree(f"{folder}/{part}", f"{room}/{part}")
     for it in [it for it in batch if not it.copy]:
         for file, old, new in it.changes:
-            text = read(f"{room}/{file}")
+            text = Path(room, file).read_text()
             if text.count(old) != 1:
                 sys.exit(f"{file}: beside the others this stands {text.count(old)} times, and not once: {old}")
-            write(f"{room}/{file}", text.replace(old, new))
+            Path(room, file).write_text(text.replace(old, new))
     sources = sources_in(folder)
     lone = {name_of_copy(it.function.place.name, body.copy): it for it in lone_functions(sources) for body in batch}
     for it in [it for it in batch if it.copy]:
@@ -273,9 +262,10 @@ def leave_out_bodies(crate, room, batch):
         shutil.rmtree(f"{room}/proofs/{'/'.join(path[:-1])}/+{it.place.cycle}", ignore_errors=True)
         os.makedirs(folder)
         statement, name = ".".join(["Rattle", crate, "proofs", *path, "Statement"]), f"{path[-1]}_spec"
-        write(f"{folder}/Proof.antt", f"use {statement}.{{statement}}\n\npub {name} : {{M : Type 1}} → statement M\n{name} = ?\n")
+        proof = f"use {statement}.{{statement}}\n\npub {name} : {{M : Type 1}} → statement M\n{name} = ?\n"
+        Path(folder, "Proof.antt").write_text(proof)
     for file, text in sources.items():
-        write(f"{room}/{file}", text)
+        Path(room, file).write_text(text)
 
 
 # What a check of some functions, or of a whole crate, ends with once it has read all sources
@@ -319,7 +309,7 @@ def unread_in(room, batch, printed):
     """The wrong bodies of a check in whose functions a text can't be read; none where that is told of another place too."""
     places = set()
     for file, number in UNREAD.findall(printed):
-        text = read(f"{room}/{file}")
+        text = Path(room, file).read_text()
         places.add(place_at(file, text, sum(map(len, text.splitlines(keepends=True)[: int(number) - 1]))).name)
     found = {it.name for it in batch if places & {place.name for place in it.places if place.name}}
     own = {place.name for it in batch if it.name in found for place in it.places}
@@ -355,9 +345,9 @@ def read_output(printed, proofs):
         answer, ended, counterexample = REFUSED.match(line), re.match(r"fn \w+::(\S+): (.*)", line), FALSE.match(line)
         if answer:
             path, file, name, said = answer.groups()
-            kept = f"{proofs}/{COPY.sub('', path)}/Answers.antt"
+            kept = Path(proofs, COPY.sub("", path), "Answers.antt")
             # What else a file of answers declares is a step on the way.
-            answers = re.findall(r"^pub (\S+)\s*:\s*goal\.", read(kept), re.M) if os.path.exists(kept) else []
+            answers = re.findall(r"^pub (\S+)\s*:\s*goal\.", kept.read_text(), re.M) if kept.exists() else []
             if file == "Answers" and name in answers and TRIED.search(said) and not STALE.search(said):
                 goals[path].append(name)
             else:
@@ -436,20 +426,13 @@ def judged(rtlib, crate, waiting, kept, is_seeded):
 
 
 def main():
-    parser = argparse.ArgumentParser(usage=__doc__.split("usage: ")[1].split("\n")[0])
-    which = parser.add_mutually_exclusive_group()
-    which.add_argument("--outside", dest="kinds", action="store_const", const=[True], default=[False])
-    which.add_argument("--all", dest="kinds", action="store_const", const=[False, True])
-    parser.add_argument("--over", metavar="FOLDER", default=TOP)
-    parser.add_argument("names", nargs="*", metavar="CRATE[/NAME]")
-    given = parser.parse_args()
-    rtlib = kit()
+    given, rtlib = tally.asked(__doc__, outside=False, all=False, over=TOP, names=()), kit()
+    kinds, names = [False, True] if given.all else [given.outside], set(map(str, given.names))
     os.chdir(given.over)
     tasks = []
     for crate in rtlib.crates_below(os.getcwd()):
-        bodies = [it for kind in given.kinds for it in wrong_bodies(f"{TOP}/crates/{crate.name}", kind)]
-        is_asked = lambda it: not given.names or {crate.name, f"{crate.name}/{it.name}"} & set(given.names)
-        bodies = [it for it in bodies if is_asked(it)]
+        bodies = [it for kind in kinds for it in wrong_bodies(f"{TOP}/crates/{crate.name}", kind)]
+        bodies = [it for it in bodies if not names or names & {crate.name, f"{crate.name}/{it.name}"}]
         if bodies:
             tasks.append((crate, bodies))
             if given.over == TOP and any(below.build_rlib(["--jobs", "1"], anew=False) for below in crate.below()):
@@ -473,10 +456,8 @@ def main():
         running = [pool.submit(judge, crate, bodies, f"{room}/{crate.name}") for crate, bodies in tasks]
         for it in running:
             it.result()
-    failed = counts["UNDECIDED"] + counts["PROVED"]
-    print(f"{counts['refused']} passed, {failed} failed")
-    return 1 if failed or not counts["refused"] else 0
+    tally.end(counts["refused"], counts["UNDECIDED"] + counts["PROVED"])
 
 
 if __name__ == "__main__":
-    sys.exit(main())
+    main()

@@ -24,19 +24,17 @@ LIMITS = (1 << 6, 1 << 12, 1 << 20, 1 << 28)
 KEPT_PLACES = 2
 TEXT_LENGTH, TEXT_LINES = 160, 8
 
-# Each opcode of opcodes.txt, with its mnemonic and the letters of its kinds
-LINES = (pathlib.Path(__file__).parent / "opcodes.txt").read_text().partition("\n\n")[2].splitlines()
-ROWS = {int(opcode, 16): (word, "".join(kinds)) for opcode, word, *kinds in (line.split() for line in LINES if " " in line)}
+# The groups of opcodes.txt, the last of which declare; each opcode with its mnemonic and the letters of its kinds
+TEXTS = (pathlib.Path(__file__).parent / "opcodes.txt").read_text().split("\n\n")[1:]
+GROUPS = [list(map(str.split, text.splitlines()[1:])) for text in TEXTS]
+ROWS = {int(opcode, 16): (word, "".join(kinds)) for group in GROUPS for opcode, word, *kinds in group}
 # The kinds of each mnemonic's parts, without the letters of what has a length.
 PARTS = {word: kinds.lstrip("P").rstrip("tyefb") for word, kinds in ROWS.values()}
 SMALL = {"Zero": 0, "One": 1}
 OPENERS = {"Device", "Processor", "PowerResource", "ThermalZone"}
 FIELD_LISTS = {"Field", "IndexField", "BankField"}
 # The terms that declare the last of their names.
-DECLARERS = OPENERS | {
-    "Name", "Method", "Mutex", "Event", "OperationRegion", "DataRegion", "Alias", "CreateField", "CreateDWordField",
-    "CreateWordField", "CreateByteField", "CreateBitField", "CreateQWordField",
-}
+DECLARERS = {word for _, word, *_ in GROUPS[-1]} - FIELD_LISTS - {"Scope", "External"}
 # Those that have other names too, before the one that they declare.
 NAMED_LAST = {"Alias"} | {word for word in DECLARERS if word.startswith("Create")}
 CONSTANTS = {"Byte", "Word", "Dword", "Qword", "Text"}

@@ -4,7 +4,6 @@ import argparse
 import contextlib
 import os
 import re
-import subprocess
 import sys
 import tempfile
 import time
@@ -47,11 +46,7 @@ def path_of(word):
 
 def known():
     """The options of acpidis, each with the name of its value, which is empty where it takes none."""
-    words = [running.command(), "--help"]
-    try:
-        done = subprocess.run(words, stdin=subprocess.DEVNULL, capture_output=True, check=False)
-    except (OSError, ValueError) as fault:
-        raise running.Unusable(f"cannot run {words[0]}: {fault}") from fault
+    done, _ = running.started([running.command(), "--help"], "replace")
     options = done.stdout.decode(errors="replace").partition("\nOptions:\n")[2].partition("\n\n")[0]
     return dict(OPTION.findall(options))
 

@@ -6,7 +6,6 @@ import hashlib
 import re
 from collections import Counter, namedtuple
 from difflib import SequenceMatcher
-from typing import Optional
 
 from acpidis_tools.listing import Dump, Line, Listing, Path, path_text
 from acpidis_tools.names import FIELD_LISTS, FIRST_WORD, SCOPES, Names
@@ -123,7 +122,7 @@ def shortened(text: str) -> str:
     return text if len(text) <= LONGEST else f"{text[:LONGEST]}.. {hashlib.sha256(text.encode()).hexdigest()}"
 
 
-def compare_tables(here: list[Dump], there: list[Dump]) -> tuple[dict[str, Optional[Text]], set[int]]:
+def compare_tables(here: list[Dump], there: list[Dump]) -> tuple[dict[str, Text | None], set[int]]:
     """For each file whose lines differ what the other listing alone has of it, None where it has no such file, and the
     numbers of the lines here that it hasn't."""
     ours, theirs = ({dump.file: dump_lines(dump) for dump in dumps} for dumps in (here, there))

@@ -155,7 +155,7 @@ class Names:
         if line.term == "External":
             self.externals.setdefault(self.place(line, word_at(line, 1)), line)
         elif line.term == "Scope":
-            path = self.led[line.number] = self.opened(line, line.words[1] if len(line.words) > 1 else "")
+            path = self.led[line.number] = self.lead(line, line.words[1] if len(line.words) > 1 else "")
             return path, inner.is_sure and self.is_sure(path) and self.is_scope(path)
         elif not inner.is_field_list and line.term not in FIELD_LISTS:
             for word in filter(is_name, line.words):
@@ -190,15 +190,11 @@ class Names:
         return path
 
     def lead(self, line: Line, word: str) -> Path:
-        """Where the source of an Alias leads, by what stands before it."""
+        """Where the source of an Alias, or the name of a Scope, leads by what stands before it: a Scope of nothing opens
+        the path at which it is placed."""
         found = self.find(line.scope, name_of(word))
-        if not found:
+        if not found and line.term == "Alias":
             raise NoListing(f"line {line.number}: {word} leads nowhere")
-        return found[0]
-
-    def opened(self, line: Line, word: str) -> Path:
-        """The path that a Scope opens, by what stands before it: where nothing does, the one at which it is placed."""
-        found = self.find(line.scope, name_of(word))
         return found[0] if found else self.place(line, word)
 
     def read(self, lines: list[Line]) -> None:

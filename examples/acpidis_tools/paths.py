@@ -56,6 +56,11 @@ class Tree:
         node, segments, _ = self.start(scope, name)
         return node and node.at(segments)
 
+    def given_place(self, scope, name):
+        """The node by whose path a name is told from outside: the root's where it is looked for above."""
+        _, _, is_searched = self.start(scope, name)
+        return self.place(self.root if is_searched else scope, name)
+
     def candidates(self, scope, name):
         """The nodes that are there at the paths that a name may mean, the nearest first."""
         node, segments, is_searched = self.start(scope, name)

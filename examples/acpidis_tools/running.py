@@ -210,13 +210,18 @@ class Listing:
 Run = namedtuple("Run", "refused listing faults")
 
 
-def ended(words, errors="strict"):
-    """What the program writes with these words, the lines of its standard error, and that of a refusal or None."""
+def started(words, errors):
+    """How the program ends with these words, and the lines of its standard error."""
     try:
         done = subprocess.run(words, stdin=subprocess.DEVNULL, capture_output=True, check=False)
-        err = done.stderr.decode(errors=errors).splitlines()
+        return done, done.stderr.decode(errors=errors).splitlines()
     except (OSError, ValueError) as fault:
         raise Unusable(f"cannot run {words[0]}: {fault}") from fault
+
+
+def ended(words, errors="strict"):
+    """What the program writes with these words, the lines of its standard error, and that of a refusal or None."""
+    done, err = started(words, errors)
     is_refused = done.returncode == 1 and len(err) == 1
     if not is_refused and done.returncode not in (0, 3):
         raise Unusable(f"{words[0]} ended with status {done.returncode}: {' '.join(err[:1])}")

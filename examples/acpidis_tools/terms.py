@@ -5,7 +5,6 @@ from __future__ import annotations
 import re
 from collections import namedtuple
 from collections.abc import Iterator
-from typing import Optional
 
 from acpidis_tools import aml
 
@@ -25,7 +24,7 @@ class Term:
 
     def __init__(self, word: str, place: int):
         self.word, self.place = word, place
-        self.arguments: list[Optional[Term]] = []
+        self.arguments: list[Term | None] = []
         self.braced: bytes | list[Term] | None = None
 
     @property
@@ -41,7 +40,7 @@ class Term:
 
 def terms_in(pieces: list[str]) -> list[Term]:
     """The terms of a line's pieces, of which every second is a word: in `FLD0, 8` stand two, as siblings."""
-    siblings: list[Optional[Term]] = []
+    siblings: list[Term | None] = []
     # The parts that are open, each with whether something stands in the last of them
     opened: list[list] = [[siblings, False]]
     last: Term | None = None

@@ -27,7 +27,7 @@ import subprocess
 import tempfile
 import time
 
-from trying import asked, built, end, first_difference, run
+from trying import asked, built, end, first_difference, run, written
 from folders import file_names
 from made_sets import SetMaker
 from mutating import MutatedMaker
@@ -120,9 +120,7 @@ def laid(trial):
     """The folder of what a trial reads, as long as it is wanted, and the options of its run."""
     with tempfile.TemporaryDirectory() as name:
         folder, counts, options = pathlib.Path(name, FOLDER), pathlib.Path(name, EXTERNALS), trial.options
-        folder.mkdir()
-        for file, data in trial.files.items():
-            (folder / file).write_bytes(data)
+        written(folder, trial.files)
         if trial.externals is not None:
             counts.write_bytes(trial.externals)
             options = dataclasses.replace(options, externals=str(counts))

@@ -93,7 +93,7 @@ class Maker(Chancy):
         self.scope = ()
         for begin, end in reversed(list(zip(cuts, cuts[1:]))):
             code = self.spelled(Name(False, 0, list(path[begin:end]))) + code
-            code = (b"\x5b\x82" if is_first else bytes([SCOPE])) + self.length(len(code)) + code
+            code = self.packed(b"\x5b\x82" if is_first else bytes([SCOPE]), code)
         return code
 
     def late_method(self, path, count):
@@ -109,8 +109,7 @@ class Maker(Chancy):
         return self.method(name, path, count)
 
     def method(self, name, path, count):
-        content = name + bytes([count | self.chance.choice((0x00, 0x08, 0x30))]) + self.body(path)
-        return b"\x14" + self.length(len(content)) + content
+        return self.packed(b"\x14", name + bytes([count | self.chance.choice((0x00, 0x08, 0x30))]) + self.body(path))
 
     def is_strange(self, inside):
         return self.chance.random() < (self.strange_calls if inside == "body" else self.strange_terms)
@@ -121,6 +120,9 @@ class Maker(Chancy):
         """A package length, sometimes wider than it needs to be."""
         widths = [width for width in range(1, WIDEST + 1) if size + width < BOUNDS[width - 1]]
         return package_length(size, 1 if self.chance.random() < 0.85 else self.chance.choice(widths))
+
+    def packed(self, opcode, content):
+        return opcode + self.length(len(content)) + content
 
     def bits(self):
         bits = self.chance.randrange(300)
@@ -248,9 +250,8 @@ class Maker(Chancy):
         row = ROWS[opcode]
         code = self.parts(opcode, depth + 1, inside)
         code += self.tail(row.tail, opcode, depth + 1, inside)
-        if row.packed:
-            code = self.length(len(code)) + code
-        return (bytes([opcode]) if opcode < 256 else bytes([0x5B, opcode & 0xFF])) + code
+        lead = bytes([opcode]) if opcode < 256 else bytes([0x5B, opcode & 0xFF])
+        return self.packed(lead, code) if row.packed else lead + code
 
     def parts(self, opcode, depth, inside):
         count = self.chance.choice(ARGUMENT_COUNTS)

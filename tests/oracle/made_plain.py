@@ -2,11 +2,10 @@
 
 from made_code import DATA, IN_BODIES, IN_DEEP_BODIES, MOST_DEPTH, PLAIN_DATA, PLAIN_VALUES, VALUES
 from made_code import Maker, package_length, shortest
-from reading import BUFFER, ELSE, EXTERNAL, IF, Name
+from reading import BUFFER, ELSE, EXTERNAL, FIELD_LISTS, IF, Name
 
 PACKAGE, VAR_PACKAGE, MUTEX, REGION, MATCH = 0x12, 0x13, 0x5B01, 0x5B80, 0x89
 NUMBERS = {0x0A: 1, 0x0B: 2, 0x0C: 4, 0x0E: 8}
-FIELD_LISTS = (0x5B81, 0x5B86, 0x5B87)
 # The operators that ASL doesn't take without a target.
 TARGETED = (0x70, 0x71, 0x75, 0x76, 0x87, 0x8E, 0x9D, 0x86, 0x5B20, 0x5B23, 0x5B24, 0x5B25, 0x5B26, 0x5B27, 0x5B2A)
 # What ASL has as parts of other terms alone.
@@ -130,8 +129,7 @@ class PlainMaker(Maker):
             return b"\3" + bytes([self.chance.randrange(6), self.chance.choice(EXTENDED), self.chance.randrange(256)])
         if kind == 4:
             code = self.chance.choice(DESCRIPTORS)
-            content = b"\x0A" + bytes([len(code)]) + code
-            return b"\2\x11" + self.length(len(content)) + content
+            return b"\2" + self.packed(b"\x11", b"\x0A" + bytes([len(code)]) + code)
         if kind in (0, 3):
             return b"\0" + self.bits() if kind == 0 else b"\2\\" + self.fresh_segment().encode()
         return self.new_unit(inside) + bytes([self.chance.randrange(1, 63)])

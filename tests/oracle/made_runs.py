@@ -57,18 +57,13 @@ class RunMaker(Maker):
     def same_or_other(self, count):
         return count if self.happens(0.8) else self.chance.choice(ARGUMENT_COUNTS)
 
-    def packed(self, opcode, content):
-        return opcode + self.length(len(content)) + content
-
     # ---- terms
 
     def terms(self, depth, inside):
         if inside != "table":
             return super().terms(depth, inside)
-        code = b""
-        for _ in range(self.chance.randrange(4) if depth else self.chance.randrange(3, 12)):
-            code += self.run_term(depth)
-        return code
+        count = self.chance.randrange(4) if depth else self.chance.randrange(3, 12)
+        return b"".join(self.run_term(depth) for _ in range(count))
 
     def run_term(self, depth):
         self.in_declaration = False

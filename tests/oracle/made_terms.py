@@ -90,12 +90,9 @@ class TermMaker(Chancy):
         word = self.chance.choices(words, map(SHARES.get, words))[0]
         if word in BLOCKS:
             return Term(word, inside=self.terms(depth + 1, scope))
-        if word == "Scope":
-            name = self.known_name(scope)
-            return Term(word, (name,), inside=self.terms(depth + 1, name.placed(scope) or ()))
-        if word == "Device":
-            name = self.new_name(scope)
-            word = self.chance.choice(DEVICES) if self.happens(0.2) else word
+        if word in ("Scope", "Device"):
+            name = self.known_name(scope) if word == "Scope" else self.new_name(scope)
+            word = self.chance.choice(DEVICES) if word == "Device" and self.happens(0.2) else word
             return Term(word, (name,), inside=self.terms(depth + 1, name.placed(scope) or ()))
         if word == "Field":
             return Term(word, (self.name(scope),), inside=tuple(self.unit(scope) for _ in range(2)))

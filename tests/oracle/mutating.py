@@ -115,11 +115,13 @@ class Mutator:
         replace = lambda code, layout: replaced(code, layout, self.span(layout), chance.choice(others or [b"\xa3"]))
         self.ways = [
             self.flip, self.damage, self.cut, self.rename, self.change_term, self.move_term, replace, self.wrap,
-            self.change_opcode, self.change_flags, self.change_length, self.stretch_all,
+            self.change_opcode, self.change_flags,
         ]
+        self.ways_of_packages = [self.change_length, self.stretch_all]
 
     def mutated(self, code, layout):
-        return (self.chance.choice(self.ways) if code else self.damage)(code, layout)
+        ways = self.ways + (self.ways_of_packages if layout.packages else [])
+        return (self.chance.choice(ways) if code else self.damage)(code, layout)
 
     def span(self, layout):
         """Where a term stands: mostly in a body, since a change elsewhere often refuses the whole set."""
@@ -195,8 +197,6 @@ class Mutator:
 
     def change_length(self, code, layout):
         """One package length a bit more or less, or any; or with more bytes than it needs."""
-        if not layout.packages:
-            return self.flip(code, layout)
         at, width, end = self.chance.choice(layout.packages)
         content, least = end - at - width, width
         if self.chance.random() < 0.5:
@@ -207,8 +207,6 @@ class Mutator:
 
     def stretch_all(self, code, layout):
         """A package and those around it by as much longer or shorter."""
-        if not layout.packages:
-            return self.flip(code, layout)
         at, width, end = self.chance.choice(layout.packages)
         return stretched(code, layout, Span(at + width, end), self.chance.choice((-3, -2, -1, 1, 2, 3)))
 
@@ -254,7 +252,7 @@ class SetMutator:
         """The files with one change."""
         names, codes = blocks_of(files)
         if not names or self.chance.random() < 0.08:
-            return self.chance.choice(self.ways)(dict(files)) if files else {}
+            return self.chance.choice(self.ways)(files, self.chance.choice(list(files))) if files else {}
         index = self.chance.randrange(len(names))
         code = self.mutator.mutated(codes[index], layouts_of(codes, self.any_run)[index])
         return {**files, names[index]: self.summed(files[names[index]][:HEADER_LENGTH] + code)}
@@ -263,50 +261,44 @@ class SetMutator:
         """A table with its length and its checksum repaired, as a rule."""
         return sealed(data) if len(data) >= HEADER_LENGTH and self.chance.random() < 0.97 else data
 
-    def any_name(self, files):
-        return self.chance.choice(list(files))
+    # ---- ways to change a set, in a file of this name or in others
 
-    def file_bytes(self, files):
-        name = self.any_name(files)
+    def file_bytes(self, files, name):
         return {**files, name: self.mutator.flip(files[name], Layout()) if files[name] else b"\0"}
 
-    def header(self, files):
+    def header(self, files, name):
         """A byte of a header, mostly with the checksum repaired."""
         names, _ = blocks_of(files)
         if not names:
-            return self.file_bytes(files)
+            return self.file_bytes(files, name)
         data = bytearray(files[name := self.chance.choice(names)])
         data[self.chance.randrange(HEADER_LENGTH)] = self.chance.choice((0, 1, 36, 0xFF, self.chance.randrange(256)))
         if self.chance.random() < 0.8:
             data[9] = (data[9] - sum(data)) % 256
         return {**files, name: bytes(data)}
 
-    def file_cut(self, files):
-        name = self.any_name(files)
+    def file_cut(self, files, name):
         data = files[name][:self.chance.randrange(len(files[name]) + 1)]
         return {**files, name: self.summed(data) if is_block(data) else data}
 
-    def file_more(self, files):
-        name = self.any_name(files)
+    def file_more(self, files, name):
         return {**files, name: files[name] + self.chance.randbytes(self.chance.choice((1, 4, 40)))}
 
-    def without_file(self, files):
-        files.pop(self.any_name(files))
-        return files
+    def without_file(self, files, name):
+        return {kept: data for kept, data in files.items() if kept != name}
 
-    def with_copy(self, files):
+    def with_copy(self, files, name):
         """One more file, with what another has, mostly as an SSDT."""
-        name = self.any_name(files)
         data = files[name]
         if is_block(data) and self.chance.random() < 0.8:
             data = sealed(b"SSDT" + data[4:])
         return {**files, f"copy{self.chance.randrange(100)}.dat": data} if name != MAP_NAME else files
 
-    def halves(self, files):
+    def halves(self, files, name):
         """The first bytes of a table, and behind them the last of another."""
         names, codes = blocks_of(files)
         if len(names) < 2:
-            return self.file_cut(files)
+            return self.file_cut(files, name)
         first, second = self.chance.sample(range(len(names)), 2)
         head, tail = codes[first], codes[second]
         code = head[:self.chance.randrange(len(head) + 1)] + tail[self.chance.randrange(len(tail) + 1):]

@@ -52,6 +52,14 @@ def built(program=PROGRAM):
     return program.resolve() if program.exists() else sys.exit("the program isn't built: ./acpidis demo builds it")
 
 
+def written(folder, files):
+    """A new folder with files of these contents, by their names."""
+    folder.mkdir(parents=True)
+    for name, data in files.items():
+        (folder / name).write_bytes(data)
+    return folder
+
+
 def first_difference(got, wanted):
     """What some values or lines differ in first from others; None where they are the same."""
     pairs = enumerate(itertools.zip_longest(got, wanted, fillvalue="the end"), 1)

@@ -13,10 +13,6 @@ GUARD = "If (Zero) {"
 OTHERS = "  // What else the tables declare:"
 
 
-class Refused(listing.NoListing):
-    """The listing hasn't got what is asked for: why."""
-
-
 class Table(namedtuple("Table", "number file signature revision oem oem_table oem_revision")):
     """A line of the listing about a table with a header: its number, and the header's fields as the line has them."""
 

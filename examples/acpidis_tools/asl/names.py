@@ -143,8 +143,7 @@ class Externals:
                 return node
             if outside is None and node in self.said:
                 outside = node
-        _, _, is_searched = self.space.start(scope.node, name)
-        return outside or self.space.place(self.space.root if is_searched else scope.node, name)
+        return outside or self.space.given_place(scope.node, name)
 
     def external(self, node, count):
         """The External of a node, which is used with so many arguments."""

@@ -7,7 +7,6 @@ import base64
 import zlib
 from dataclasses import dataclass, field
 from html import escape
-from typing import Optional
 
 from acpidis_tools.comparison import Comparison
 from acpidis_tools.decoding import Decoder
@@ -31,10 +30,10 @@ class Sheet:
     decoder: Decoder
     name: str = ""
     faults: dict[int, Fault] = field(default_factory=dict)
-    comparison: Optional[Comparison] = None
+    comparison: Comparison | None = None
     is_packed: bool = False
-    shown: Optional[set[int]] = None
-    paths: Optional[set[Path]] = None
+    shown: set[int] | None = None
+    paths: set[Path] | None = None
 
     @classmethod
     def of(cls, text: bytes, is_packed: bool = False) -> Sheet:
@@ -43,7 +42,7 @@ class Sheet:
         names = Names(listing)
         return cls(listing, names, Decoder(listing, names), is_packed=is_packed)
 
-    def mark(self, path: Optional[Path]) -> str:
+    def mark(self, path: Path | None) -> str:
         return self.comparison.mark(path) if self.comparison and path is not None else ""
 
     def shows(self, number: int) -> bool:

@@ -24,7 +24,6 @@ class Node:
 
     kind: str = ""
     below: int = 0
-    has_children: bool = False
     marks: str = ""
     is_maybe: bool = False
 
@@ -35,8 +34,7 @@ def nodes_of(rows: Iterable[Row], added: Iterable[Path]) -> dict[Path, Node]:
     nodes |= {path: Node("added") for path in added}
     for path in list(nodes):
         for length in range(1, len(path)):
-            above = nodes.setdefault(path[:length], Node())
-            above.below, above.has_children = above.below + 1, True
+            nodes.setdefault(path[:length], Node()).below += 1
     return dict(sorted(nodes.items()))
 
 
@@ -66,12 +64,11 @@ class TreeWriter:
                 parts[-1].append("</details>\n")
             if node is None:
                 break
-            if not node.has_children or len(opened) >= DEEPEST_FOLD:
+            if not node.below or len(opened) >= DEEPEST_FOLD:
                 parts[-1].append(f"<p{self.dimmed(node)}>{self.node_html(path, node)}</p>\n")
                 continue
-            is_open = len(path) == 1
             is_packed = self.sheet.is_packed and node.below >= MANY and len(path) > 1
-            state = " open" if is_open else ""
+            state = " open" if len(path) == 1 else ""
             parts[-1].append(f"<details{state}><summary{self.dimmed(node)}>{self.node_html(path, node)}</summary>\n")
             opened.append((path, is_packed))
             if is_packed:
