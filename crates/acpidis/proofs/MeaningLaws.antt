@@ -6,11 +6,15 @@ use Rattle.acpidis.proofs.Common.{LoadsBy, methods_in, methods_of, HoldsBy, Load
 use Rattle.acpidis.proofs.Common.{Order, IsOrder, Body, indexes_in, Options, codes_in}
 use Rattle.acpidis.proofs.Common.{Reading, entry_of, AreReadings}
 use Rattle.acpidis.proofs.Common.{Became, AreBodies, Meaning, LoadsSet, HoldsSet, HasTables, HasTablesBy, Means, IsSetBy, codes_of}
-use Rattle.std.proofs.Common.{◌⊎◌, ◌&&◌, false, inl, inr, subst}
-use Rattle.acpidis.specs.Meaning.{LoadsNames}
+use Rattle.std.proofs.Common.{◌⊎◌, inl, inr}
+use Rattle.acpidis.specs.Told.{LoadsTexts}
+use Rattle.aml_code.specs.Pieces.{Told}
+use Rattle.asl_text.specs.Tables.{IsMade}
+use Rattle.asl_text.specs.declared.tables.TableText.{TableText}
+use Rattle.asl_text.specs.declared.tables.TableTexts.{TableTexts}
+use Rattle.std.specs.declared.alloc.Global.{Global}
 use Rattle.aml_load.proofs.Loads.{loads_one_way}
-use Rattle.aml_load.specs.Loading.{LoadsTo}
-use Rattle.aml_load.specs.Views.{HoldsNames}
+use Rattle.aml_load.specs.Views.{HoldsKept}
 use Rattle.acpidis.specs.declared.refusal.Refusal.{Refusal}
 use Rattle.acpidis.specs.Meaning.{none_unknown}
 use Rattle.acpidis.specs.Refusals.{IsWant, StopsBy, TellsLoad, TellsBlocks, load_refusal}
@@ -18,7 +22,7 @@ use Rattle.aml_load.specs.Tables.{StopsFor, load_at}
 use Rattle.aml_load.specs.declared.faults.LoadFault.{LoadFault}
 use Rattle.aml_load.specs.declared.faults.LoadFault.TheVariants as loads
 use Rattle.aml_namespace.specs.Namespace.{Givens}
-use Rattle.std.specs.Prelude.{Bool, Err}
+use Rattle.std.specs.Prelude.{Bool, Err, IfSome, Option, Vec}
 use Rattle.acpidis.proofs.BodyLaws.{are_entries, the_entries, are_told}
 use Rattle.acpidis.specs.declared.refusal.Refusal.TheVariants as refusals
 
@@ -86,37 +90,33 @@ module _ (dumps : List Dump) (options : Options) (order : Order) (codes : List (
 
 -- ---- tables that keep no terms: what they load to goes by the one load of their AML
 
-module _ (options : Options) (codes : List (List ℕ)) (strict : options.any_run ≡ false) where
-  strictly : (trees : List Trees) (es : List Entry) → LoadsTo false false options.externals.items codes trees es
-      → LoadsBy options codes trees es
-  strictly trees es =
-      subst (λ (b : Bool). LoadsTo b (b && options.unknown_zero) options.externals.items codes trees es) (sym strict)
+-- what is kept of the pieces of a table
+abbrev keeps : TableTexts → List Told → Option TableText → Type 0
+keeps s ps text = IfSome text (IsMade ps)
 
-  pub not_strictly : (trees : List Trees) (es : List Entry) → LoadsBy options codes trees es
-      → LoadsTo false false options.externals.items codes trees es
-  not_strictly trees es =
-      subst (λ (b : Bool). LoadsTo b (b && options.unknown_zero) options.externals.items codes trees es) strict
+module _ (options : Options) (codes : List (List ℕ)) (s : TableTexts) (x : TableSet × Vec (Option TableText) Global) where
+  abbrev HoldsIt : List Trees → List Entry → Type 0
+  HoldsIt trees es = HoldsKept keeps s x codes trees es
 
-  pub names_so : (x : TableSet)
-      → (trees : List Trees) × (es : List Entry) × LoadsTo false false options.externals.items codes trees es × HoldsNames x codes es
-      → ((trees : List Trees) (es : List Entry) → LoadsTo false false options.externals.items codes trees es → HoldsNames x codes es)
-      → LoadsNames options codes x
-  names_so x sound one = (
-    sound.0,
+  pub texts_so : (trees : List Trees) × (es : List Entry) × LoadsBy options codes trees es × HoldsIt trees es
+      → ((trees : List Trees) (es : List Entry) → LoadsBy options codes trees es → HoldsIt trees es)
+      → LoadsTexts options codes x.0 x.1.items
+  texts_so (own, es, loads, has) one = (
+    own,
     (
-      sound.0,
-      sound.1,
-      strictly sound.0 sound.1 sound.2,
-      record { tables = sound.3.tables; trees = refl; space = sound.3.space; methods = sound.3.methods },
+      own,
+      es,
+      loads,
+      record { tables = has.names.tables; trees = refl; space = has.names.space; methods = has.names.methods },
     ),
-    λ trees es h.
-        let loads = not_strictly trees es h in
-        let names = one trees es loads in record {
+    λ trees fs h.
+        let names = (one trees fs h).names in record {
           tables = names.tables;
-          trees = (loads_one_way false false options.externals.items codes sound.0 trees sound.1 es sound.2 loads).0;
+          trees = (loads_one_way options.any_run (none_unknown options) options.externals.items codes own trees es fs loads h).0;
           space = names.space;
           methods = names.methods;
         },
+    has.kept,
   )
 
 -- ---- a loaded set with the bodies that were read

@@ -1,96 +1,110 @@
--- Of a loaded set whose tables were told each table is printed by what is kept of it: the text of the terms as which it
--- reads, or these.
-use Rattle.acpidis.proofs.Common.{◌≡◌, ℕ, zero, suc, ◌<◌, Bool, false, List, [], ◌∷◌, AllZip, Some, length, get_or, set, sym}
-use Rattle.acpidis.proofs.Common.{◌∙◌, ap₂, subst, arith, Trees, Entry, ReadsModule, Dump, Options, Meaning, IsSetBy, HasTablesBy}
-use Rattle.acpidis.proofs.Common.{Table, TableSet, table_codes, table_dumps, methods_in, codes_of}
-use Rattle.std.proofs.Common.{Option}
-use Rattle.aml_code.specs.Pieces.{Told, line_pieces}
-use Rattle.aml_load.specs.Loading.{TablesLoad}
-use Rattle.aml_namespace.specs.Known.{Known, StandsFor}
+-- Of a loaded set whose tables were told each table is printed by its text, which is that of the terms as which it reads.
+use Rattle.acpidis.proofs.Common.{◌≡◌, ℕ, suc, ◌+◌, ◌-◌, Bool, true, false, cond, List, [], ◌∷◌, Some, length, subst, refl, ap}
+use Rattle.acpidis.proofs.Common.{sym, ◌∙◌, Trees, Entry, ReadsModule, Dump, Options, IsSetBy, Table, TableSet, table_codes}
+use Rattle.std.proofs.Common.{Option, None, ◌⊎◌, inl, inr}
+use Rattle.std.specs.Prelude.{is_some, option_map, unwrap_or}
+use Rattle.std.specs.List.{list_all}
+use Rattle.aml_code.specs.Faults.{Arities, most_levels}
+use Rattle.aml_code.specs.Lawful.{ReadsStep, has_opcode, next_position}
+use Rattle.aml_code.specs.Opcodes.{Row, row_of}
+use Rattle.aml_code.specs.Tree.{Tree, nothing, named, op, no_trees, tree_more, terms, bytes, elements, fields, body, empty}
+use Rattle.aml_code.specs.declared.rows.Position.{Position}
+use Rattle.aml_code.specs.declared.rows.Position.TheVariants as positions
+use Rattle.aml_code.specs.declared.rows.TailKind.{TailKind}
+use Rattle.aml_code.specs.declared.rows.TailKind.TheVariants as kinds
+use Rattle.aml_parse.specs.Running.{has_terms as with_terms, is_block as is_open}
+use Rattle.aml_load.specs.Loading.{TablesLoad, TableLoads, TermsRead, TermReads, Where, counts_at}
 use Rattle.aml_text.specs.Told.{AreTold}
-use Rattle.asl_text.specs.Tables.{IsMade}
+use Rattle.asl_text.specs.Tables.{AreSteps, IsStep, StandsIn, has_terms, is_block}
 use Rattle.asl_text.specs.declared.tables.TableText.{TableText}
-use Rattle.acpidis.proofs.MeaningLaws.{not_strictly}
-use Rattle.acpidis.specs.Told.{AreTexts, IsPrinted, IsTextOf}
+use Rattle.acpidis.specs.Told.{AreTexts}
 
--- the text that is kept of a table is that of its terms
-pub text_printed : (t : Table) (text : TableText) → IsTextOf t.code.now (Some text) → (ts : Trees) → ReadsModule t.code.now ts
-    → ReadsModule t.code.now ts × IsMade (line_pieces 1 ts) text
-text_printed t text of ts reads = (reads, subst (λ (ps : List Told). IsMade ps text) (of.1.0 ts reads) of.1.1)
+-- ---- a table whose code may run is read in steps
+abbrev IsRun : Position → Type 0
+IsRun p = (p ≡ positions.RunTerm) ⊎ (p ≡ positions.RunAfterIf)
 
--- ---- tables, one after the other
+if_run : (b : Bool) → IsRun (cond b positions.RunAfterIf positions.RunTerm)
+if_run true = inr refl
+if_run false = inl refl
 
--- of so many of them each is printed so
-abbrev pub PrintedTo : ℕ → List Table → List (Option TableText) → Type 0
-PrintedTo zero ts xs = Unit {0}
-PrintedTo (suc n) [] xs = Unit {0}
-PrintedTo (suc n) (t ∷ ts) [] = Unit {0}
-PrintedTo (suc n) (t ∷ ts) (x ∷ xs) = IsPrinted t x × PrintedTo n ts xs
+next_run : (p : Position) (t : Tree) → IsRun p → IsRun (next_position p t)
+next_run p t (inl e) = subst (λ q. IsRun (next_position q t)) (sym e) (if_run (has_opcode 0xA0 t))
+next_run p t (inr e) = subst (λ q. IsRun (next_position q t)) (sym e) (if_run (has_opcode 0xA0 t))
 
-pub printed_more : (n : ℕ) (ts : List Table) (xs : List (Option TableText)) (t : Table) (x : Option TableText)
-    → n < length ts → x ≡ get_or xs n x → IsPrinted t x → PrintedTo n ts xs → PrintedTo (suc n) (set ts n t) xs
-printed_more zero [] xs t x inside is this others = tt
-printed_more zero (y ∷ ts) [] t x inside is this others = tt
-printed_more zero (y ∷ ts) (z ∷ xs) t x inside is this others = (subst (IsPrinted t) is this, tt)
-printed_more (suc n) [] xs t x inside is this others = tt
-printed_more (suc n) (y ∷ ts) [] t x inside is this others = tt
-printed_more (suc n) (y ∷ ts) (z ∷ xs) t x inside is this others =
-    (others.0, printed_more n ts xs t x (omega (arith, inside)) is this others.1)
+same_terms : (k : Option TailKind) → with_terms k ≡ has_terms k
+same_terms (Some kinds.Terms) = refl
+same_terms (Some _) = refl
+same_terms None = refl
 
--- the text that is kept of one of them
-pub text_at : (ts : List Table) (xs : List (Option TableText)) (n : ℕ) (t : Table) (x : Option TableText)
-    → n < length ts → t ≡ get_or ts n t → x ≡ get_or xs n x → AreTexts (table_codes ts) xs → IsTextOf t.code.now x
-text_at [] xs n t x inside is its texts = absurd (omega (arith, inside))
-text_at (y ∷ ts) [] n t x inside is its texts = absurd texts
-text_at (y ∷ ts) (z ∷ xs) zero t x inside is its texts =
-    let first : IsTextOf y.code.now z = texts.0 in rw (is, its) first
-text_at (y ∷ ts) (z ∷ xs) (suc n) t x inside is its texts = text_at ts xs n t x (omega (arith, inside)) is its texts.1
+same_row : (r : Option Row) → unwrap_or (option_map (λ (r : Row). with_terms r.tail) r) false
+    ≡ unwrap_or (option_map (λ (r : Row). has_terms r.tail) r) false
+same_row None = refl
+same_row (Some r) = same_terms r.tail
 
-pub all_printed : (ts : List Table) (xs : List (Option TableText)) → length xs ≡ length ts → PrintedTo (length ts) ts xs
-    → (trees : List Trees) → AllZip ReadsModule (table_codes ts) trees → AreTold ts xs trees
-all_printed [] xs long printed [] read = tt
-all_printed [] xs long printed (u ∷ us) read = absurd read
-all_printed (t ∷ ts) [] long printed trees read = absurd (omega (arith, long))
-all_printed (t ∷ ts) (x ∷ xs) long printed [] read = absurd read
-all_printed (t ∷ ts) (x ∷ xs) long printed (u ∷ us) read =
-    (printed.0 u read.0, all_printed ts xs (omega (arith, long)) printed.1 us read.1)
+same_block : (t : Tree) → is_open t ≡ is_block t
+same_block (op o w ps r) = same_row (row_of o)
+same_block _ = refl
 
--- ---- a loaded set
+module _ (z : Bool) (last : List Entry) (code : List ℕ) where
+  step_of : (arity : Arities) (levels : ℕ) (p : Position) (at end : ℕ) (t : Tree) (behind : ℕ) → IsRun p
+      → ReadsStep arity levels p code at end t behind → IsStep code t
+  step_of arity levels p at end t behind run reads =
+      record { arity = arity; levels = levels; position = p; runs = run; lawful = reads.lawful }
 
--- its tables read as its terms
-all_read : (z : Bool) (last es fs : List Entry) (t : ℕ) (cs : List (List ℕ)) (trees : List Trees)
-    → TablesLoad false z last t es cs trees fs → AllZip ReadsModule cs trees
-all_read z last es fs t [] [] loads = tt
-all_read z last es fs t [] (ts ∷ rest) loads = absurd loads
-all_read z last es fs t (c ∷ cs) [] loads = absurd loads
-all_read z last es fs t (c ∷ cs) (ts ∷ rest) (ms, one, others) = (one.0, all_read z last ms fs (suc t) cs rest others)
+  whole : (head t : Tree) → IsStep code head → head ≡ t → is_open head ≡ false → IsStep code t × (is_block t ≡ false)
+  whole head t step is none = (subst (IsStep code) is step, ap is_block (sym is) ∙ sym (same_block head) ∙ none)
 
-module _ (dumps : List Dump) (options : Options) (x : TableSet) (trees : List Trees) (from : IsSetBy dumps options x trees) where
-  pub set_reads : options.any_run ≡ false → AllZip ReadsModule (table_codes x.tables.items) trees
-  set_reads strict =
-      let k = from.sound.0 in
-      let loads = not_strictly options (codes_of dumps k) strict k.trees k.entries from.sound.1.loads in
-      let has = from.sound.2.holds in
-      rw (has.tables, has.trees) (all_read false k.entries _ k.entries 0 (codes_of dumps k) k.trees loads.read)
+  mutual
+    read_steps : (levels : ℕ) (p : Position) (at end : ℕ) (site : Where) (es : List Entry) (ts : Trees) (fs : List Entry)
+        → IsRun p → TermsRead z last code levels p at end site es ts fs → AreSteps code ts
+    read_steps levels p at end site es no_trees fs run h = tt
+    read_steps levels p at end site es (tree_more t ts) fs run (head, behind, inner, below, ms, reads, agrees, does, opens, rest) = (
+      stands levels head below inner t ms (step_of (counts_at z last code site es) levels p at end head behind run reads) opens,
+      read_steps levels (next_position p head) behind end site ms ts fs (next_run p head run) rest,
+    )
 
-  -- a set with the same tables, but for what these keep, is what the dumps load to too
-  module _ (y : TableSet) (named : table_dumps y.tables.items ≡ table_dumps x.tables.items)
-      (coded : table_codes y.tables.items ≡ table_codes x.tables.items) (space : y.space ≡ x.space)
-      (methods : y.methods.items ≡ x.methods.items) where
-    has_so : (k : Meaning) → HasTablesBy x trees dumps k → HasTablesBy y trees dumps k
-    has_so k h = record {
-      named = named ∙ h.named;
-      holds = record {
-        tables = coded ∙ h.holds.tables;
-        trees = h.holds.trees;
-        space = subst (λ (s : Known). StandsFor s k.entries) (sym space) h.holds.space;
-        methods = ap₂ methods_in space methods ∙ h.holds.methods;
-      };
-    }
+    stands : (levels : ℕ) (head : Tree) (below : Where) (inner : List Entry) (t : Tree) (fs : List Entry) → IsStep code head
+        → TermReads z last code levels head below inner t fs → StandsIn code t
+    stands levels head below inner (op o w ps (terms ts)) fs step (start, len, is, block, inside) = (
+      (start, len, subst (IsStep code) is step, ap is_block (sym is) ∙ sym (same_block head) ∙ block),
+      read_steps (levels - 1) positions.RunTerm start (start + len) below inner ts fs (inl refl) inside,
+    )
+    stands levels head below inner nothing fs step opens = whole head nothing step opens.0 opens.1
+    stands levels head below inner (named n ts) fs step opens = whole head (named n ts) step opens.0 opens.1
+    stands levels head below inner (op o w ps empty) fs step opens = whole head (op o w ps empty) step opens.0 opens.1
+    stands levels head below inner (op o w ps (bytes bs)) fs step opens = whole head (op o w ps (bytes bs)) step opens.0 opens.1
+    stands levels head below inner (op o w ps (elements ts)) fs step opens = whole head (op o w ps (elements ts)) step opens.0 opens.1
+    stands levels head below inner (op o w ps (fields us)) fs step opens = whole head (op o w ps (fields us)) step opens.0 opens.1
+    stands levels head below inner (op o w ps (body s n)) fs step opens = whole head (op o w ps (body s n)) step opens.0 opens.1
 
-    pub set_again : IsSetBy dumps options y trees
-    set_again = record {
-      sound = (from.sound.0, from.sound.1, has_so from.sound.0 from.sound.2);
-      one = λ k loads. has_so k (from.one k loads);
-      few = rw methods from.few;
-    }
+one_read : (any z : Bool) (last : List Entry) (t : ℕ) (es : List Entry) (code : List ℕ) (ts : Trees) (fs : List Entry)
+    → TableLoads any z last t es code ts fs → ReadsModule code ts ⊎ AreSteps code ts
+one_read false z last t es code ts fs h = inl h.0
+one_read true z last t es code ts fs h = inr (read_steps z last code most_levels positions.RunTerm 0 (length code) _ es ts fs (inl refl) h)
+
+-- ---- tables, each with its text
+
+all_told : (any z : Bool) (last es fs : List Entry) (n : ℕ) (tables : List Table) (trees : List Trees) (texts : List (Option TableText))
+    → TablesLoad any z last n es (table_codes tables) trees fs → list_all is_some texts ≡ true → AreTexts trees texts
+    → AreTold tables texts trees
+all_told any z last es fs n [] [] texts loads each made = tt
+all_told any z last es fs n [] (u ∷ us) texts loads each made = absurd loads
+all_told any z last es fs n (t ∷ ts) [] texts loads each made = absurd loads
+all_told any z last es fs n (t ∷ ts) (u ∷ us) [] loads each made = absurd made
+all_told any z last es fs n (t ∷ ts) (u ∷ us) (None ∷ xs) loads each made = absurd cc
+all_told any z last es fs n (t ∷ ts) (u ∷ us) (Some x ∷ xs) (ms, one, others) each made =
+    ((one_read any z last n es t.code.now u ms one, made.0), all_told any z last ms fs (suc n) ts us xs others each made.1)
+
+-- the same tables, as they are seen elsewhere
+seen_so : (any z : Bool) (last es fs : List Entry) (n : ℕ) (cs ds : List (List ℕ)) (trees us : List Trees) → ds ≡ cs → us ≡ trees
+    → TablesLoad any z last n es cs trees fs → TablesLoad any z last n es ds us fs
+seen_so any z last es fs n cs ds trees us p q loads =
+    subst (λ xs. TablesLoad any z last n es xs us fs) (sym p) (subst (λ ys. TablesLoad any z last n es cs ys fs) (sym q) loads)
+
+pub set_told : (dumps : List Dump) (options : Options) (x : TableSet) (trees : List Trees) (texts : List (Option TableText))
+    → IsSetBy dumps options x trees → list_all is_some texts ≡ true → AreTexts trees texts → AreTold x.tables.items texts trees
+set_told dumps options x trees texts from each made =
+    let k = from.sound.0 in
+    let has = from.sound.2.holds in
+    let read = seen_so _ _ _ _ _ _ _ _ _ _ has.tables has.trees from.sound.1.loads.read in
+    all_told _ _ _ _ _ _ x.tables.items trees texts read each made

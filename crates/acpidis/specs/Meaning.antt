@@ -87,18 +87,9 @@ pub record IsSetBy (dumps : List Dump) (options : Options) (set : TableSet) (tre
   pub one : (k : Meaning) → LoadsSet dumps options k → HasTablesBy set trees dumps k
   pub few : length set.methods.items ≤ 1048576
 
--- the same of a set that keeps its terms, and of one that doesn't
+-- the same of a set that keeps its terms
 abbrev pub IsSet : List Dump → Options → TableSet → Type 0
 IsSet dumps options set = IsSetBy dumps options set (table_terms set.tables.items)
-
--- a set is what tables load to, which is nothing else, whatever terms they have
-abbrev pub LoadsNames : Options → List (List ℕ) → TableSet → Type 0
-LoadsNames options codes x = (own : List Trees)
-    × ((trees : List Trees) × (es : List Entry) × LoadsBy options codes trees es × HoldsBy x own codes trees es)
-    × ((trees : List Trees) (es : List Entry) → LoadsBy options codes trees es → HoldsBy x own codes trees es)
-
-abbrev pub IsNamesSet : List Dump → Options → TableSet → Type 0
-IsNamesSet dumps options set = (trees : List Trees) × IsSetBy dumps options set trees
 
 -- ---- a listing in memory
 

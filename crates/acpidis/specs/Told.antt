@@ -1,36 +1,32 @@
--- A stepping stone: a loaded set of which texts of tables are kept, and terms of the others.
+-- A stepping stone: a loaded set of which texts of tables are kept, or their terms.
 use Rattle.std.specs.Prelude.{ℕ, List, Option, IfSome}
 use Rattle.std.specs.List.{AllZip}
 use Rattle.acpi_tables.specs.declared.dump.Dump.{Dump}
-use Rattle.aml_code.specs.Lawful.{ReadsModule}
-use Rattle.aml_code.specs.Pieces.{Told}
+use Rattle.aml_code.specs.Pieces.{line_pieces}
 use Rattle.aml_code.specs.Tree.{Trees}
-use Rattle.aml_load.specs.Kept.{TellsCode}
-use Rattle.aml_set.specs.Views.{table_codes}
-use Rattle.aml_set.specs.declared.tables.Table.{Table}
+use Rattle.aml_namespace.specs.Namespace.{Entry}
+use Rattle.aml_load.specs.Views.{HoldsBy}
 use Rattle.aml_set.specs.declared.tables.TableSet.{TableSet}
-use Rattle.aml_text.specs.Told.{AreTold, IsToldBy}
+use Rattle.aml_text.specs.Told.{AreTold}
 use Rattle.asl_text.specs.Tables.{IsMade}
 use Rattle.asl_text.specs.declared.tables.TableText.{TableText}
-use Rattle.acpidis.specs.Meaning.{IsSetBy}
+use Rattle.acpidis.specs.Meaning.{IsSetBy, LoadsBy}
 use Rattle.acpidis.specs.declared.options.Options.{Options}
 
--- the text that is kept of the AML of a table is that of its pieces
-abbrev pub IsTextOf : List ℕ → Option TableText → Type 0
-IsTextOf code text = (ps : List Told) × (TellsCode code ps × IfSome text (IsMade ps))
+-- the texts that are kept of tables with these terms, in their order
+abbrev pub AreTexts : List Trees → List (Option TableText) → Type 0
+AreTexts trees texts = AllZip (λ ts text. IfSome text (IsMade (line_pieces 1 ts))) trees texts
 
--- the same of tables, in their order
-abbrev pub AreTexts : List (List ℕ) → List (Option TableText) → Type 0
-AreTexts codes texts = AllZip IsTextOf codes texts
+-- a set is what tables load to, which is nothing else, and of their terms these texts are kept
+abbrev pub LoadsTexts : Options → List (List ℕ) → TableSet → List (Option TableText) → Type 0
+LoadsTexts options codes x texts = (own : List Trees)
+    × ((trees : List Trees) × (es : List Entry) × LoadsBy options codes trees es × HoldsBy x own codes trees es)
+    × ((trees : List Trees) (es : List Entry) → LoadsBy options codes trees es → HoldsBy x own codes trees es)
+    × AreTexts own texts
 
--- whatever terms the AML of a table reads as, its text was told of them, or they are the terms that it keeps
-abbrev pub IsPrinted : Table → Option TableText → Type 0
-IsPrinted t text = (ts : Trees) → ReadsModule t.code.now ts → IsToldBy t text ts
-
--- the same of tables, in their order
-abbrev pub ArePrinted : List Table → List (Option TableText) → Type 0
-ArePrinted tables texts = (trees : List Trees) → AllZip ReadsModule (table_codes tables) trees
-    → AreTold tables texts trees
+-- the same of the tables of dumps
+abbrev pub IsTextSet : List Dump → Options → TableSet → List (Option TableText) → Type 0
+IsTextSet dumps options set texts = (trees : List Trees) × (IsSetBy dumps options set trees × AreTexts trees texts)
 
 -- a set is what the dumps load to, and each of its tables has the text of its terms, or these
 abbrev pub HasTexts : List Dump → Options → TableSet → List (Option TableText) → Type 0

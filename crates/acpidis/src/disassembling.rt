@@ -7,10 +7,10 @@ ghost use Rattle.aml_set.specs.Code.{AreShort};
 ghost use Rattle.aml_set.specs.Views.{codes_view, table_codes, table_dumps};
 ghost use Rattle.acpi_tables.specs.Order.{AreTables, AreTaken, IsOrder};
 ghost use Rattle.acpidis.specs.Bodies.{AreDrawn};
-ghost use Rattle.acpidis.specs.Meaning.{Meaning, LoadsBy, LoadsNames, LoadsSet, IsNamesSet, IsSet, Means, Shows, Told, none_unknown};
+ghost use Rattle.acpidis.specs.Meaning.{Meaning, LoadsBy, LoadsSet, IsSet, Means, Shows, Told, none_unknown};
 ghost use Rattle.aml_text.specs.Listing.{indexes_in};
 ghost use Rattle.acpidis.specs.Refusals.{IsWant, load_refusal, TellsTable, TellsLoad, TellsBlocks};
-ghost use Rattle.acpidis.specs.Told.{AreTexts};
+ghost use Rattle.acpidis.specs.Told.{IsTextSet, LoadsTexts};
 
 use crate::bodies::read_bodies;
 use crate::crew::Crew;
@@ -18,7 +18,7 @@ use crate::options::Options;
 use crate::refusal::Refusal;
 use crate::tables::tables_of;
 use acpi_tables::{Bad, Dump, Order, TableFault, load_order};
-use aml_load::{LoadFault, load_names, load_tables};
+use aml_load::{LoadFault, LoadRules, load_names, load_tables};
 use aml_pool::Gate;
 use aml_set::{Loaded, Table, TableSet};
 use aml_text::{Listing, TableText, TableTexts, dump_of};
@@ -142,38 +142,37 @@ pub fn load_set<'a>(
     Ok((order, set))
 }
 
-/// Loads tables by their AML, and keeps texts in place of their terms. The code outside methods may not run.
+/// Loads tables by their AML, and keeps texts in place of their terms.
 fn load_names_in<'a>(
     alloc: Global,
     tables: Vec<Table<'a>>,
     options: &Options,
     order: &Order,
 ) -> Result<(TableSet<'a>, Vec<Option<TableText>>), Refusal>
-    requires strict { options.now.any_run ≡ false }
     ensures dumps { IfOk result (λ x. table_dumps x.0.tables.items ≡ table_dumps tables.entry.items) }
-    ensures loads { IfOk result (λ x. LoadsNames options.now (table_codes tables.entry.items) x.0) }
-    ensures texts { IfOk result (λ x. AreTexts (table_codes tables.entry.items) x.1.items) }
+    ensures loads { IfOk result (λ x. LoadsTexts options.now (table_codes tables.entry.items) x.0 x.1.items) }
     ensures few { IfOk result (λ x. length x.0.methods.items ≤ 1048576) }
     ensures complete { IfErr result (λ e. IsWant e ⊎ ((trees : List Trees) (es : List Entry) →
         LoadsBy options.now (table_codes tables.entry.items) trees es → ⊥)) }
 {
-    let texts = TableTexts { alloc };
-    match load_names(alloc, tables, options.externals.as_slice(), &texts) {
+    let rules = LoadRules {
+        givens: options.externals.as_slice(),
+        any_run: options.any_run,
+        unknown_zero: none_unknown(options),
+    };
+    match load_names(alloc, tables, rules, &TableTexts { alloc }) {
         Ok(loaded) => Ok(loaded),
         Err(fault) => Err(refused_load(order, fault)),
     }
 }
 
-/// What the tables of a set load to, and what is kept of their texts, in place of their terms. No body is read, and the
-/// code outside methods may not run.
+/// What the tables of a set load to, and what is kept of their texts, in place of their terms. No body is read.
 pub(crate) fn load_names_set<'a>(
     alloc: Global,
     dumps: &'a [Dump],
     options: &Options,
 ) -> Result<(TableSet<'a>, Vec<Option<TableText>>), Refusal>
-    requires strict { options.now.any_run ≡ false }
-    ensures set { IfOk result (λ x. IsNamesSet dumps.now options.now x.0) }
-    ensures texts { IfOk result (λ x. AreTexts (table_codes x.0.tables.items) x.1.items) }
+    ensures set { IfOk result (λ x. IsTextSet dumps.now options.now x.0 x.1.items) }
     ensures complete { IfErr result (λ e. IsWant e ⊎ ((k : Meaning) → ¬ LoadsSet dumps.now options.now k)) }
 {
     let order = order_in(alloc, dumps, options.any_sum)?;

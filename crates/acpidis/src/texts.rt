@@ -50,6 +50,8 @@ impl Telling for AtLevel<'_, '_, '_> {
 
     type Made = ();
 
+    type Fault = CodeFault;
+
     ghost tells = { λ t made ps. let u = t.unread.now in let k = u.set.now.space in (ts : Trees) ×
         (ReadsBy u.unknown_zero k u.bytes.now (method_in k u.method.now) ts × (ps ≡ line_pieces t.level ts)) };
 

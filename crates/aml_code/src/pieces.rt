@@ -3,7 +3,7 @@
 use crate::packages::PkgWidth;
 use crate::rows::{OpRow, TailKind};
 use crate::tree::Field;
-use aml_names::{CodeFault, Name, NoMemory};
+use aml_names::{Name, NoMemory};
 
 /// A piece of a term, in the order of the bytes (ACPI 6.5, 20.2).
 ///
@@ -107,11 +107,13 @@ impl<A: Sink, B: Sink> Sink for Both<'_, A, B> {
 /// What tells a sink all pieces of some terms, or why there are none.
 pub trait Telling {
     ghost use Rattle.std.specs.Prelude.{List, IfOk, IfErr};
-    ghost use Rattle.aml_names.specs.declared.faults.CodeFault.{CodeFault as Fault};
     ghost use Rattle.aml_code.specs.Pieces.{Told};
 
     /// What is made of them besides.
     type Made: Drop;
+
+    /// Why there are none.
+    type Fault: Drop;
 
     /// The condition of telling: none, where an impl names none.
     ghost can_tell: { Self → Type 0 } = { λ _. Unit {0} };
@@ -120,10 +122,10 @@ pub trait Telling {
     ghost tells: { Self → Self.Made → List Told → Type 0 };
 
     /// That it tells none for this fault.
-    ghost fails: { Self → Fault → Type 0 };
+    ghost fails: { Self → Self.Fault → Type 0 };
 
     /// Tells them. What was told before a fault says nothing.
-    fn tell_all<S: Sink>(self, sink: &mut S) -> Result<Self::Made, CodeFault>
+    fn tell_all<S: Sink>(self, sink: &mut S) -> Result<Self::Made, Self::Fault>
         requires { can_tell self }
         ensures told { IfOk result (λ made. (ps : List Told) × (tells self made ps × S.grew sink.old sink.new ps)) }
         ensures fails { IfErr result (fails self) };
@@ -131,8 +133,7 @@ pub trait Telling {
 
 /// Who is told tables, one after the other, and keeps something of each.
 pub trait TableSink {
-    ghost use Rattle.std.specs.Prelude.{◌≡◌, ◌⊎◌, List, IfOk, IfErr};
-    ghost use Rattle.aml_names.specs.declared.faults.CodeFault.TheVariants.{NoMemory as want};
+    ghost use Rattle.std.specs.Prelude.{List, IfOk, IfErr};
     ghost use Rattle.aml_code.specs.Pieces.{Told};
 
     type Kept: Drop;
@@ -142,8 +143,8 @@ pub trait TableSink {
 
     /// Has a table of so many bytes of AML told. Gives what was made of it besides, and what is kept, or the fault for
     /// which nothing is told.
-    fn take<T: Telling>(&self, bytes: usize, telling: T) -> Result<(T::Made, Self::Kept), CodeFault>
+    fn take<T: Telling>(&self, bytes: usize, telling: T) -> Result<(T::Made, Self::Kept), T::Fault>
         requires { T.can_tell telling }
         ensures kept { IfOk result (λ x. (ps : List Told) × (T.tells telling x.0 ps × keeps self.now ps x.1)) }
-        ensures fails { IfErr result (λ fault. (fault ≡ want) ⊎ T.fails telling fault) };
+        ensures fails { IfErr result (T.fails telling) };
 }

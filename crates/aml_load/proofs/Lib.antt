@@ -16,6 +16,8 @@ pub mod Doing
 pub mod Relating
 pub mod RunSpans
 pub mod Ran
+pub mod Runs
+mod Openings
 pub mod Behind
 pub mod Founds
 pub mod Strict

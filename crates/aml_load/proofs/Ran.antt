@@ -161,7 +161,7 @@ end_on code at behind end le (inr (p, w, v, there, is, less)) = inr (p, w, v, th
 
 pub room_on : (code : List ℕ) (r : Rest) (p : Position) (behind : ℕ) → HasRoom code r → r.at < behind → behind ≤ r.end
     → IsTrue (is_run p)
-    → HasRoom code (record { levels = r.levels; position = p; at = behind; end = r.end })
+    → HasRoom code (record { level = r.level; levels = r.levels; position = p; at = behind; end = r.end })
 room_on code r p behind h less le run = record {
   short = h.short;
   run = run;
@@ -183,7 +183,7 @@ room_in code r (op o w ps (body start len)) behind has (arity, reads) = by (open
     by true =
         let room = room_inside arity code r.position r.at r.end r.levels o w ps start len behind reads (room_of code r has) in (
           level_there arity code r.position r.at r.end r.levels (op o w ps (body start len)) behind reads,
-          record { short = has.short; run = refl; le = room.le; inside = room.inside; is_end = room.is_end; deep = room.deep },
+          λ level. record { short = has.short; run = refl; le = room.le; inside = room.inside; is_end = room.is_end; deep = room.deep },
         )
     by false = tt
 room_in code r _ behind has there = tt

@@ -1,5 +1,5 @@
 -- A stepping stone: what is heard of a table's terms, as the code keeps it.
-use Rattle.std.specs.Prelude.{◌≡◌, ◌<◌, ℕ, false, List, [], ◌∷◌, Option, Some, None, Result, Ok, Err, drop, length, map, reverse, IfSome, IfOk, OnOk}
+use Rattle.std.specs.Prelude.{◌≡◌, ◌<◌, ℕ, Bool, List, [], ◌∷◌, Option, Some, None, Result, Ok, Err, drop, length, map, reverse, IfSome, IfOk, OnOk}
 use Rattle.std.specs.List.{AllByRecursion}
 use Rattle.std.specs.Option.{option_map, option_or}
 use Rattle.std.specs.Coded.{×_prop, Unit-prop, le_prop}
@@ -17,17 +17,15 @@ use Rattle.aml_code.specs.declared.rows.Role.TheVariants as roles
 use Rattle.aml_load.specs.Loading.{Where, methods_of}
 use Rattle.aml_load.specs.declared.uses.Site.{Site}
 use Rattle.aml_load.specs.declared.walking.Progress.{Progress}
-use Rattle.aml_load.specs.Kept.{TellsCode}
-use Rattle.aml_load.specs.Tables.{Fails, table_at}
+use Rattle.aml_load.specs.Tables.{Fails, table_at, tables_at}
 use Rattle.aml_load.specs.declared.faults.LoadFault.{LoadFault}
 use Rattle.aml_load.specs.declared.hearing.Around.{Around as KeptAround}
 use Rattle.aml_load.specs.declared.hearing.Around.TheVariants as kept
 use Rattle.aml_load.specs.declared.hearing.Noted.{Noted}
 use Rattle.aml_load.specs.declared.hearing.Noted.TheVariants as noted
-use Rattle.aml_code.specs.Pieces.{Told}
+use Rattle.aml_code.specs.Pieces.{Told, line_pieces}
 use Rattle.aml_code.specs.Tree.{nothing, Part, Trees, child, label, byte}
 use Rattle.aml_load.specs.declared.hearing.Head.{Head as KeptHead}
-use Rattle.aml_load.specs.declared.hearer.TableHearing.{TableHearing}
 use Rattle.aml_load.specs.declared.hearing.Hearing.{Hearing}
 
 abbrev pub around_view : Known → KeptAround → Around
@@ -187,20 +185,30 @@ abbrev pub Ended : Result Progress LoadFault → Result Heard LoadFault → Type
 Ended (Ok p) r = (x : Heard) × Holds p x.listed × (r ≡ Ok x)
 Ended (Err e) r = r ≡ Err e
 
--- what a table made of the progress, which keeps no terms
-abbrev pub TableHeard : {X : Type 0} → (X → Progress) → Result X LoadFault → Result (Trees × Listed) LoadFault → Type 0
-TableHeard of (Ok x) walk = (ts : Trees) × (m : Listed) × Holds (of x) m × (walk ≡ Ok (ts, m))
-TableHeard of (Err e) walk = Fails e walk
-
--- the same of several
-abbrev pub TablesHeard : {X : Type 0} → (X → Progress) → Result X LoadFault → Result (List Trees × Listed) LoadFault → Type 0
-TablesHeard of (Ok x) walk = (trees : List Trees) × (m : Listed) × Holds (of x) m × (walk ≡ Ok (trees, m))
-TablesHeard of (Err e) walk = Fails e walk
+-- Of a table that was told these terms are read, and what they declare is held then, whatever was held before.
+abbrev pub IsHeard : Bool → Progress → ℕ → List ℕ → Progress → Trees → Type 0
+IsHeard any_run p t code made ts = (l : Listed) → Holds p l → (m : Listed) × Holds made m
+    × (table_at any_run t l code ≡ Ok (ts, m))
 
 -- a table that is told so makes this of what was made before it
-pub record TellsTable (t : TableHearing) (made : Result Progress LoadFault) (ps : List Told) : Type 0 where
-  pub heard : (l : Listed) → Holds t.progress l → TableHeard (λ x. x) made (table_at false t.table l t.code.now)
-  pub pieces : TellsCode t.code.now ps
+abbrev pub TellsTable : Bool → Progress → ℕ → List ℕ → Progress → List Told → Type 0
+TellsTable any_run p t code made ps = (ts : Trees) × ((ps ≡ line_pieces 1 ts) × IsHeard any_run p t code made ts)
+
+-- the same, where this is so of its pieces
+abbrev pub TableHeard : Bool → Progress → ℕ → List ℕ → Progress → (List Told → Type 0) → Type 0
+TableHeard any_run p t code made Is = (ts : Trees) × (Is (line_pieces 1 ts) × IsHeard any_run p t code made ts)
+
+-- it can't be read, or can't declare what it declares, for this fault
+abbrev pub FailsToTell : Bool → Progress → ℕ → List ℕ → LoadFault → Type 0
+FailsToTell any_run p t code e = (l : Listed) → Holds p l → Fails e (table_at any_run t l code)
+
+-- the same of several tables, from the first on
+abbrev pub TablesHeard : Bool → Progress → List (List ℕ) → Progress → (List Trees → Type 0) → Type 0
+TablesHeard any_run p codes made Are = (trees : List Trees) × (Are trees × ((l : Listed) → Holds p l
+    → (m : Listed) × Holds made m × (tables_at any_run 0 [] l codes ≡ Ok (trees, m))))
+
+abbrev pub FailToTell : Bool → Progress → List (List ℕ) → LoadFault → Type 0
+FailToTell any_run p codes e = (l : Listed) → Holds p l → Fails e (tables_at any_run 0 [] l codes)
 
 -- a set that holds what is listed, where each name outside the methods takes as many arguments as were read with it
 abbrev pub IsChecked : Result TableSet LoadFault → Listed → Result (Unit {0}) LoadFault → Type 0

@@ -14,3 +14,5 @@ pub mod Standing
 pub mod Standings
 pub mod StandingLaws
 pub mod Kept
+pub mod Opening
+pub mod Run

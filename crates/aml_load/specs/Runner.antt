@@ -60,12 +60,13 @@ pub record HasRoom (code : List ℕ) (r : Rest) : Type 0 where
 -- and so may that of the terms inside a step
 abbrev pub RoomBy : List ℕ → ℕ → Option (ℕ × ℕ) → Type 0
 RoomBy code levels None = Unit {0}
-RoomBy code levels (Some x) = (0 < levels) × HasRoom code (record {
+RoomBy code levels (Some x) = (0 < levels) × ((level : ℕ) → HasRoom code (record {
+  level = level;
   levels = levels - 1;
   position = Position.RunTerm;
   at = x.0;
   end = x.0 + x.1;
-})
+}))
 
 abbrev pub HasRoomInside : List ℕ → ℕ → Tree → Type 0
 HasRoomInside code levels head = RoomBy code levels (span_inside head)

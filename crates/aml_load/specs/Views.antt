@@ -1,12 +1,15 @@
 -- What a loaded set is the load of.
 use Rattle.std.specs.Prelude.{◌≡◌, ℕ, List, [], slice_index_or, Some, ◌≢◌, Bool, ◌⊎◌}
-use Rattle.std.specs.Prelude.{Result, Ok, Err}
+use Rattle.std.specs.Prelude.{Result, Ok, Err, Vec}
+use Rattle.std.specs.declared.alloc.Global.{Global}
+use Rattle.aml_code.specs.Pieces.{Told}
 use Rattle.aml_code.specs.Tree.{Trees, slice_of}
 use Rattle.aml_namespace.specs.Known.{Known, StandsFor}
 use Rattle.aml_set.specs.declared.loaded.Loaded.{Loaded}
 use Rattle.aml_set.specs.Methods.{Method, methods_in, span_of}
 use Rattle.aml_set.specs.declared.tables.TableSet.{TableSet}
 use Rattle.aml_set.specs.Views.{codes_view, trees_view, methods_of_set, table_codes, table_terms}
+use Rattle.aml_load.specs.Kept.{AreKeptOf}
 use Rattle.aml_load.specs.Loading.{methods_of}
 use Rattle.aml_names.specs.declared.faults.CodeFault.{CodeFault}
 use Rattle.aml_names.specs.declared.faults.CodeFault.TheVariants as codes
@@ -42,6 +45,12 @@ pub record HoldsNames (x : TableSet) (codes : List (List ℕ)) (es : List Entry)
   pub tables : table_codes x.tables.items ≡ codes
   pub space : StandsFor x.space es
   pub methods : methods_of_set x ≡ methods_of es
+
+-- and of its tables this is kept, by what a sink keeps of their terms
+pub record HoldsKept {S K : Type 0} (keeps : S → List Told → K → Type 0) (s : S) (x : TableSet × Vec K Global)
+    (codes : List (List ℕ)) (ts : List Trees) (es : List Entry) : Type 0 where
+  pub names : HoldsNames x.0 codes es
+  pub kept : AreKeptOf keeps s ts x.1.items
 
 -- ---- The bodies of methods, each read in the namespace of all entries (ACPI 6.5, 5.3 and 20.2.5).
 

@@ -1,12 +1,16 @@
 //! Tables whose terms are told, and declare as they are told.
-ghost use Rattle.std.specs.Prelude.{◌≡◌, ◌≤◌, true, false, [], ◌∷◌, ◌++◌, List, Option, Result, Some, None, Ok, OnOk};
-ghost use Rattle.std.specs.Prelude.{IfOk, length};
-ghost use Rattle.aml_load.specs.Declaring.{Listed, strict};
+ghost use Rattle.std.specs.Prelude.{◌≡◌, ◌≤◌, true, false, [], ◌∷◌, Option, Result, Some, None, Ok, OnOk};
+ghost use Rattle.std.specs.Prelude.{IfOk, IfErr, length};
+ghost use Rattle.aml_load.specs.Declaring.{Listed};
 ghost use Rattle.aml_load.specs.Hearing.{Heard, hear};
 ghost use Rattle.aml_code.specs.Pieces.{piece_view};
-ghost use Rattle.aml_load.specs.HearingViews.{Says, Ended, Grew, TableHeard, HasNumbers, HasNumbers-prop, begun};
-ghost use Rattle.aml_load.specs.Kept.{IsKeptOf};
-ghost use Rattle.aml_load.specs.Tables.{table_at};
+ghost use Rattle.aml_code.specs.Lawful.{no_arguments};
+ghost use Rattle.aml_code.specs.Pieces.{line_pieces};
+ghost use Rattle.aml_code.specs.Tree.{Trees};
+ghost use Rattle.aml_code.specs.declared.rows.Position.{Position};
+ghost use Rattle.aml_names.specs.NameReading.{Fails as NotRead};
+ghost use Rattle.aml_parse.specs.Reading.{all_at};
+ghost use Rattle.aml_load.specs.HearingViews.{Says, Ended, Grew, TableHeard, FailsToTell, HasNumbers, HasNumbers-prop, begun};
 ghost use Rattle.aml_load.specs.Walking.{Holds};
 ghost use Rattle.aml_load.specs.declared.faults.LoadFault.{LoadFault as AnyFault};
 
@@ -16,7 +20,7 @@ use crate::uses::Site;
 use crate::walking::Progress;
 use aml_code::{Both, CodeFault, NoMemory, Piece, Sink, TableSink, Telling};
 use aml_parse::tell_module;
-use std::alloc::AllocError;
+use std::alloc::{AllocError, Global};
 
 /// Who hears the terms of a table. A fault of what they declare is kept, and what comes behind it is passed over: a fault
 /// of the bytes further on goes first.
@@ -123,6 +127,22 @@ impl Sink for Hearer {
         says_further (a.hearing, a.fault) (b.hearing, b.fault) (c.hearing, c.fault) ps qs h g };
 }
 
+/// Tells two sinks the terms of a table, in lines of the first level.
+fn tell_both<A: Sink, B: Sink>(
+    alloc: Global,
+    code: &[u8],
+    first: &mut A,
+    second: &mut B,
+) -> Result<(), CodeFault>
+    requires { length code.now ≤ 16777216 }
+    ensures told { OnOk result ((ts : Trees) × ((all_at no_arguments None Position.ModuleTerm code.now ≡ Ok ts)
+        × (A.grew first.old first.new (line_pieces 1 ts) × B.grew second.old second.new (line_pieces 1 ts)))) }
+    ensures fails { IfErr result (λ fault. NotRead fault (all_at no_arguments None Position.ModuleTerm code.now)) }
+{
+    let mut both = Both { first, second };
+    tell_module(alloc, code, 1, &mut both)
+}
+
 /// A table that isn't read yet, and what the tables before it have made: its terms declare as they are told.
 #[derive(Drop)]
 pub struct TableHearing<'a> {
@@ -133,20 +153,21 @@ pub struct TableHearing<'a> {
 
 impl Telling for TableHearing<'_> {
     ghost use Rattle.std.specs.Prelude.{◌≤◌, length, false};
-    ghost use Rattle.aml_load.specs.HearingViews.{TellsTable};
-    ghost use Rattle.aml_load.specs.Declaring.{code_fault};
-    ghost use Rattle.aml_load.specs.Tables.{Fails, table_at};
+    ghost use Rattle.aml_load.specs.HearingViews.{FailsToTell, TellsTable};
 
-    /// What the tables up to this one have made, or why it can't be declared.
-    type Made = Result<Progress, LoadFault>;
+    /// What the tables up to this one have made.
+    type Made = Progress;
+
+    /// Why it can't be read, or declared.
+    type Fault = LoadFault;
 
     ghost can_tell = { λ t. length t.code.now ≤ 16777216 };
 
-    ghost tells = { λ t made ps. TellsTable t made ps };
+    ghost tells = { λ t made ps. TellsTable false t.progress t.table t.code.now made ps };
 
-    ghost fails = { λ t fault. (l : Listed) → Fails (code_fault t.table fault) (table_at false t.table l t.code.now) };
+    ghost fails = { λ t fault. FailsToTell false t.progress t.table t.code.now fault };
 
-    fn tell_all<S: Sink>(self, sink: &mut S) -> Result<Self::Made, CodeFault> {
+    fn tell_all<S: Sink>(self, sink: &mut S) -> Result<Progress, LoadFault> {
         let TableHearing {
             progress,
             table,
@@ -154,35 +175,71 @@ impl Telling for TableHearing<'_> {
         } = self;
         let alloc = progress.alloc;
         let mut hearer = Hearer::new(progress, table)?;
-        let mut both = Both {
-            first: &mut hearer,
-            second: sink,
-        };
-        tell_module(alloc, code, 1, &mut both)?;
-        Ok(hearer.ended())
+        match tell_both(alloc, code, &mut hearer, sink) {
+            Ok(()) => hearer.ended(),
+            Err(fault) => Err(LoadFault::in_code(table, fault)),
+        }
     }
 }
 
-/// Reads a table whole, and declares what its terms declare as they are told. Answers what the sink keeps of it.
-#[tactic(auto, unfolding(crate::specs::Tables::table_at))]
+/// The same of a table whose code outside methods may run: each term declares before the next is read.
+#[derive(Drop)]
+pub struct TableRun<'a> {
+    progress: Progress,
+    table: usize,
+    code: &'a [u8],
+}
+
+impl Telling for TableRun<'_> {
+    ghost use Rattle.std.specs.Prelude.{◌≤◌, length, true};
+    ghost use Rattle.aml_load.specs.HearingViews.{FailsToTell, TellsTable};
+
+    type Made = Progress;
+
+    type Fault = LoadFault;
+
+    ghost can_tell = { λ t. length t.code.now ≤ 16777216 };
+
+    ghost tells = { λ t made ps. TellsTable true t.progress t.table t.code.now made ps };
+
+    ghost fails = { λ t fault. FailsToTell true t.progress t.table t.code.now fault };
+
+    #[tactic(auto, unfolding(crate::specs::Tables::table_at))]
+    fn tell_all<S: Sink>(self, sink: &mut S) -> Result<Progress, LoadFault> {
+        let TableRun {
+            mut progress,
+            table,
+            code,
+        } = self;
+        progress.tell_table(table, code, sink)?;
+        Ok(progress)
+    }
+}
+
+/// Reads a table, and declares what its terms declare as they are told. Answers what the sink keeps of it.
 pub fn hear_table<S: TableSink>(
     progress: Progress,
+    any_run: bool,
     table: usize,
     code: &[u8],
     sink: &S,
 ) -> Result<(Progress, S::Kept), LoadFault>
     requires { length code.now ≤ 16777216 }
-    ensures heard { (l : Listed) → Holds progress l →
-        TableHeard (λ x. x.0) result (table_at false table l code.now) }
-    ensures kept { IfOk result (λ x. IsKeptOf S.keeps sink.now code.now x.1) }
+    ensures heard { IfOk result (λ x. TableHeard any_run progress table code.now x.0 (λ ps. S.keeps sink.now ps x.1)) }
+    ensures fails { IfErr result (FailsToTell any_run progress table code.now) }
 {
+    if any_run {
+        let run = TableRun {
+            progress,
+            table,
+            code,
+        };
+        return sink.take(code.len(), run);
+    }
     let hearing = TableHearing {
         progress,
         table,
         code,
     };
-    match sink.take(code.len(), hearing) {
-        Ok((made, kept)) => Ok((made?, kept)),
-        Err(fault) => Err(LoadFault::in_code(table, fault)),
-    }
+    sink.take(code.len(), hearing)
 }

@@ -12,8 +12,8 @@ ghost use Rattle.aml_load.specs.Declaring.{Listed, first_listed, most_methods, u
 ghost use Rattle.aml_load.specs.Kept.{AreKeptOf};
 ghost use Rattle.aml_load.specs.Loading.{LoadsTo};
 ghost use Rattle.aml_load.specs.Tables.{StopsFor, table_at, tables_at, GivesBy, GivesLoad, GivesSet};
-ghost use Rattle.aml_load.specs.HearingViews.{TablesHeard, IsChecked};
-ghost use Rattle.aml_load.specs.Views.{HoldsLoad, HoldsNames, HoldsTables};
+ghost use Rattle.aml_load.specs.HearingViews.{TablesHeard, FailToTell, IsChecked};
+ghost use Rattle.aml_load.specs.Views.{HoldsKept, HoldsLoad, HoldsTables};
 ghost use Rattle.aml_load.specs.Walking.{Holds, Gives, TableWalked, TablesRead};
 ghost use Rattle.aml_set.specs.Code.{AreCodes, AreShort};
 ghost use Rattle.aml_set.specs.Views.{codes_view, table_codes, table_dumps};
@@ -247,21 +247,22 @@ fn load_each<'a>(
     checked_set(progress, tables, any_run, unknown_zero)
 }
 
-/// Reads tables whole, and declares what their terms declare: no term is kept. Gives what is kept of each.
+/// Reads tables, and declares what their terms declare: no term is kept. Gives what is kept of each.
 #[tactic(auto, unfolding(crate::specs::Tables::tables_at))]
 fn hear_tables<S: TableSink>(
     progress: Progress,
+    any_run: bool,
     tables: &[Table<'_>],
     sink: &S,
 ) -> Result<(Progress, Vec<S::Kept>), LoadFault>
-    ensures heard { (l : Listed) → Holds progress l →
-        TablesHeard (λ x. x.0) result (tables_at false 0 [] l (table_codes tables.now)) }
-    ensures kept { IfOk result (λ x. AreKeptOf S.keeps sink.now (table_codes tables.now) x.1.items) }
+    ensures heard { IfOk result (λ x. TablesHeard any_run progress (table_codes tables.now) x.0
+        (λ trees. AreKeptOf S.keeps sink.now trees x.1.items)) }
+    ensures fails { IfErr result (FailToTell any_run progress (table_codes tables.now)) }
 {
     let mut heard = progress;
     let mut kept = Vec::new(heard.alloc);
     for number in 0..tables.len() {
-        let (progress, one) = hear_table(heard, number, tables[number].code, sink)?;
+        let (progress, one) = hear_table(heard, any_run, number, tables[number].code, sink)?;
         heard = progress;
         kept.push(one)?;
     }
@@ -272,52 +273,64 @@ fn hear_tables<S: TableSink>(
 fn hear_each<'a, S: TableSink>(
     alloc: Global,
     tables: Vec<Table<'a>>,
-    givens: &[(Path, ArgumentCount)],
+    rules: LoadRules<'_>,
     sink: &S,
 ) -> Result<(TableSet<'a>, Vec<S::Kept>), LoadFault>
     ensures dumps { IfOk result (λ x. table_dumps x.0.tables.items ≡ table_dumps tables.entry.items) }
-    ensures gives { GivesBy (λ x codes trees es. HoldsNames x.0 codes es) false false givens.now result
-        (table_codes tables.entry.items) }
-    ensures kept { IfOk result (λ x. AreKeptOf S.keeps sink.now (table_codes tables.entry.items) x.1.items) }
+    ensures gives { GivesBy (HoldsKept S.keeps sink.now) rules.entry.any_run rules.entry.unknown_zero
+        rules.entry.givens.now result (table_codes tables.entry.items) }
 {
-    let (progress, kept) = hear_tables(first_progress(alloc, givens)?, tables.as_slice(), sink)?;
-    let set = checked_set(progress, tables, false, false)?;
+    let progress = first_progress(alloc, rules.givens)?;
+    let (heard, kept) = hear_tables(progress, rules.any_run, tables.as_slice(), sink)?;
+    let set = checked_set(heard, tables, rules.any_run, rules.unknown_zero)?;
     Ok((set, kept))
 }
 
-/// Loads tables that aren't read yet as one, as `load` does, and keeps no terms: each table keeps its place, its dump and
-/// its AML. The sink is told each table once, as it declares: what it keeps of them is answered too, in load order.
+/// How tables load.
+#[derive(Clone, Copy)]
+pub struct LoadRules<'g> {
+    /// Argument counts that the user gives to paths.
+    pub givens: &'g [(Path, ArgumentCount)],
+    /// Whether the code outside methods may run.
+    pub any_run: bool,
+    /// Whether a name outside the methods of which nothing tells how many arguments it takes, takes none.
+    pub unknown_zero: bool,
+}
+
+/// Loads tables that aren't read yet as one, as `load` does, or as `load_any_run` where `rules.any_run` says so, and keeps
+/// no terms: each table keeps its place, its dump and its AML. The sink is told each table once, as it declares: what it
+/// keeps of them is answered too, in load order.
 pub fn load_names<'a, S: TableSink>(
     alloc: Global,
     tables: Vec<Table<'a>>,
-    givens: &[(Path, ArgumentCount)],
+    rules: LoadRules<'_>,
     sink: &S,
 ) -> Result<(TableSet<'a>, Vec<S::Kept>), LoadFault>
     // The tables are the same ones.
     ensures dumps { IfOk result (λ x. table_dumps x.0.tables.items ≡ table_dumps tables.entry.items) }
-    // Their AML reads as terms that load to entries whose namespace and methods are the answer's.
+    // Their AML reads as terms that load to entries whose namespace and methods are the answer's; and of each table is
+    // kept what the sink keeps of these terms.
     ensures sound { IfOk result (λ x. (trees : List Trees) × (es : List Entry) ×
-        LoadsTo false false givens.now (table_codes tables.entry.items) trees es ×
-        HoldsNames x.0 (table_codes tables.entry.items) es) }
+        LoadsTo rules.entry.any_run rules.entry.unknown_zero rules.entry.givens.now (table_codes tables.entry.items)
+        trees es × HoldsKept S.keeps sink.now x (table_codes tables.entry.items) trees es) }
     // To nothing else.
     ensures one { IfOk result (λ x. (trees : List Trees) (es : List Entry) →
-        LoadsTo false false givens.now (table_codes tables.entry.items) trees es →
-        HoldsNames x.0 (table_codes tables.entry.items) es) }
-    // Of each table is kept what the sink keeps of its terms' pieces, in lines of the first level.
-    ensures kept { IfOk result (λ x. AreKeptOf S.keeps sink.now (table_codes tables.entry.items) x.1.items) }
+        LoadsTo rules.entry.any_run rules.entry.unknown_zero rules.entry.givens.now (table_codes tables.entry.items)
+        trees es → HoldsKept S.keeps sink.now x (table_codes tables.entry.items) trees es) }
     // There are at most so many methods.
     ensures few { IfOk result (λ x. length x.0.methods.items ≤ most_methods) }
     // A refusal for another cause than memory comes only where there are no trees and entries that load.
     ensures complete { IfErr result (λ e. (e ≡ LoadFault.NoMemory) ⊎ ((trees : List Trees) (es : List Entry) →
-        LoadsTo false false givens.now (table_codes tables.entry.items) trees es → ⊥)) }
+        LoadsTo rules.entry.any_run rules.entry.unknown_zero rules.entry.givens.now (table_codes tables.entry.items)
+        trees es → ⊥)) }
     // A fault is true of its table and of the entries where it stands.
-    ensures true_fault { IfErr result (λ e. (e ≡ LoadFault.NoMemory) ⊎
-        StopsFor false false givens.now (table_codes tables.entry.items) e) }
+    ensures true_fault { IfErr result (λ e. (e ≡ LoadFault.NoMemory) ⊎ StopsFor rules.entry.any_run
+        rules.entry.unknown_zero rules.entry.givens.now (table_codes tables.entry.items) e) }
     // Which fault it is: the first that is met in loading forward.
-    ensures forward { GivesBy (λ x codes trees es. HoldsNames x.0 codes es) false false givens.now result
-        (table_codes tables.entry.items) }
+    ensures forward { GivesBy (HoldsKept S.keeps sink.now) rules.entry.any_run rules.entry.unknown_zero
+        rules.entry.givens.now result (table_codes tables.entry.items) }
 {
-    hear_each(alloc, tables, givens, sink)
+    hear_each(alloc, tables, rules, sink)
 }
 
 /// Loads tables that aren't read yet as one, as `load` does, or as `load_any_run` where `any_run` says so: each keeps

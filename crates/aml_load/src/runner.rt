@@ -28,7 +28,7 @@ use aml_space::{Below, BodyNames, Kind, PathId, SpaceFault};
 use std::alloc::Global;
 
 /// The most levels of terms inside each other.
-const MOST_LEVELS: u16 = 512;
+pub const MOST_LEVELS: u16 = 512;
 
 impl Site {
     /// Under a path, which has a number from now on.
@@ -63,9 +63,11 @@ impl Site {
     }
 }
 
-/// What is left of a span: with how many levels, in which position, from which offset on, and where it ends.
+/// What is left of a span: at which level of lines, with how many levels, in which position, from which offset on, and
+/// where it ends.
 #[derive(Drop, Clone, Copy)]
 pub struct Rest {
+    pub level: u32,
     pub levels: u16,
     pub position: Position,
     pub at: u32,
@@ -82,8 +84,8 @@ struct Term {
 
 /// How many arguments names take in a term outside methods: none where nothing tells.
 #[derive(Drop)]
-struct RunNames<'a> {
-    names: BodyNames<'a>,
+pub struct RunNames<'a> {
+    pub names: BodyNames<'a>,
 }
 
 impl Arity for RunNames<'_> {
@@ -115,7 +117,7 @@ fn opens(opcode: u16) -> bool
 }
 
 /// The span of the terms inside a term that was read without them: where it begins, and its length.
-fn span_inside(head: &Node) -> Option<(u32, u32)>
+pub fn span_inside(head: &Node) -> Option<(u32, u32)>
     ensures { result ≡ span_inside (node_view head.now) }
 {
     match head {
@@ -359,6 +361,7 @@ impl Progress {
             None => Ok(head),
             Some((start, len)) => {
                 let inside = Rest {
+                    level: 0,
                     levels: levels - 1,
                     position: Position::RunTerm,
                     at: start,
@@ -434,6 +437,7 @@ impl Progress {
             sure: true,
         };
         let whole = Rest {
+            level: 1,
             levels: MOST_LEVELS,
             position: Position::RunTerm,
             at: 0,

@@ -3,7 +3,7 @@ pub mod FlatLaws
 pub mod FlatReads
 pub mod Bodiless
 pub mod Took
-mod TellLaws
+pub mod TellLaws
 pub mod Leads
 pub mod ReadLaws
 pub mod Again

@@ -23,5 +23,5 @@ pub use body::{body_terms, parse_body};
 pub use module::{parse_module, tell_module};
 pub use positions::next_position;
 pub use running::{reads_forward, reads_one_way, spells_table};
-pub use step::read_step;
+pub use step::{StepAt, read_step, tell_step};
 pub use told::{tell_body, tell_terms};

@@ -10,5 +10,6 @@ pub mod ToldLaws
 pub mod WovenLaws
 pub mod PlainLaws
 pub mod TableLaws
+pub mod StepLaws
 pub mod ToldTables
 mod EndLaws

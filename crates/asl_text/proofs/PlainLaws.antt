@@ -194,15 +194,20 @@ plain_fields s levels ls level (field_more u us) h =
 
 -- ---- the tails of terms of a table but for methods and those with terms inside
 
-module _ (s : Setting) (levels : ℕ) (p : Position) (k : Option TailKind) (ls : PathSet) (level : ℕ) where
-  pub plain_element_tail : (ts : Trees) → IsTail s (IsLawful s levels) p k ls (elements ts)
-      → ArePlain (tail_pieces level (elements ts))
-  plain_element_tail ts h =
-      plain_then (items level ts) (end_of_list tails.Elements level) refl
-      (plain_items s levels positions.Data ls level ts refl (tail_elements s levels p k ls ts h))
+-- no terms stand inside
+abbrev pub is_a_line : Tail → Bool
+is_a_line (terms ts) = false
+is_a_line _ = true
 
-  pub plain_field_tail : (us : Fields) → IsTail s (IsLawful s levels) p k ls (fields us)
-      → ArePlain (tail_pieces level (fields us))
-  plain_field_tail us h =
-      plain_then (fields_pieces (deeper level) us) (end_of_list tails.Fields level) refl
-      (plain_fields s levels ls (deeper level) us (tail_fields s levels p k ls us h))
+pub plain_kept : (s : Setting) (levels : ℕ) (p : Position) (k : Option TailKind) (ls : PathSet) (level : ℕ) (t : Tail)
+    → is_plain (tail t) ≡ true → is_a_line t ≡ true → IsTail s (IsLawful s levels) p k ls t
+    → ArePlain (tail_pieces level t)
+plain_kept s levels p k ls level (terms ts) e l h = absurd cc
+plain_kept s levels p k ls level (body start len) e l h = absurd cc
+plain_kept s levels p k ls level (elements ts) e l h =
+    plain_then (items level ts) (end_of_list tails.Elements level) refl
+    (plain_items s levels positions.Data ls level ts refl (tail_elements s levels p k ls ts h))
+plain_kept s levels p k ls level (fields us) e l h =
+    plain_then (fields_pieces (deeper level) us) (end_of_list tails.Fields level) refl
+    (plain_fields s levels ls (deeper level) us (tail_fields s levels p k ls us h))
+plain_kept s levels p k ls level _ e l h = refl

@@ -27,16 +27,16 @@ use Rattle.aml_code.specs.Pieces.{Told, opcode, part, tail, next, part_count, pi
 use Rattle.aml_code.specs.Pieces.{line_pieces, end_of_call, end_of_parts, end_of_list, end_of_line, list}
 use Rattle.aml_code.specs.Pieces.{line as line_of}
 use Rattle.aml_code.specs.Tree.{Tree, nothing, named, op, Trees, no_trees, tree_more, tree_count, Part, label, byte}
-use Rattle.aml_code.specs.Tree.{Parts, no_parts, part_more, Tail, empty, terms, bytes, elements, fields, body, slice_of}
+use Rattle.aml_code.specs.Tree.{Parts, no_parts, part_more, Tail, terms, body, slice_of}
 use Rattle.aml_code.proofs.RowFacts.{rows_say, row_opcode}
 use Rattle.aml_code.proofs.Takers.{taker_takes}
 use Rattle.asl_text.proofs.BlockLaws.{behind_both}
 use Rattle.asl_text.proofs.PieceLaws.{text_of, head_text_of, parts_text, term_text, tail_terms}
 use Rattle.asl_text.proofs.PlainLaws.{is_plain, ArePlain, plain_then, plain_op, plain_pieces, plain_items, plain_parts}
-use Rattle.asl_text.proofs.PlainLaws.{plain_element_tail, plain_field_tail}
+use Rattle.asl_text.proofs.PlainLaws.{is_a_line, plain_kept}
 use Rattle.asl_text.proofs.WovenLaws.{Ordered, ordered_longer, ordered_place, woven_text, woven_place, weave, IsReady}
 unfoldable use Rattle.asl_text.specs.Pieces.{opened, closed, row_opening, row_closing}
-use Rattle.asl_text.specs.Tables.{Made, unmade, grown, made, made_text, has_body, is_method, woven, place_levels}
+use Rattle.asl_text.specs.Tables.{Made, grown, made_text, has_body, is_method, woven, place_levels}
 use Rattle.asl_text.specs.Texts.{flags_text}
 use Rattle.asl_text.specs.declared.tables.Place.{Place}
 
@@ -146,6 +146,16 @@ module _ (code : List ℕ) where
         ∙ map-append (λ (q : Place). q.level) m.places (record { at = here; level = level; start = start; len = len } ∷ []);
   }
 
+-- a term with no terms inside
+abbrev pub holds_none : Tree → Bool
+holds_none (op o w ps t) = is_a_line t
+holds_none _ = true
+
+-- a term whose tail is kept as it is
+abbrev pub Keeps : Position → Tree → Type 0
+Keeps p (op o w ps t) = (r : Row) → row_of o ≡ Some r → option_map (tail_in p) r.tail ≡ r.tail
+Keeps p _ = Unit {0}
+
 -- ---- which terms stand in a table
 
 is_table : Position → Bool
@@ -167,6 +177,10 @@ table_tail positions.ModuleTerm (Some k) i = refl
 table_tail positions.GuardTerm (Some k) i = refl
 table_tail _ (Some k) i = absurd cc
 
+table_keeps : (p : Position) (t : Tree) → is_table p ≡ true → Keeps p t
+table_keeps p (op o w ps t) i = λ r e. table_tail p r.tail i
+table_keeps p _ i = tt
+
 -- the terms inside a term stand in a table too: a guard has only Externals, which have none
 inside_table : (p : Position) (o : ℕ) (r : Row) → is_table p ≡ true → row_of o ≡ Some r → takes p r.place ≡ true
     → has_length r.tail ≡ true
@@ -182,11 +196,11 @@ inside_table positions.GuardTerm o r i e taken long =
 inside_table _ o r i e taken long = absurd cc
 
 module _ (s : Setting) (levels : ℕ) where
-  has_terms : (p : Position) (k : Option TailKind) (ls : PathSet) (ts : Trees)
+  has_a_block : (p : Position) (k : Option TailKind) (ls : PathSet) (ts : Trees)
       → IsTail s (IsLawful s levels) p k ls (terms ts)
       → (has_length k ≡ true) × (not (has_body k) ≡ true)
-  has_terms p (Some tails.Terms) ls ts h = (refl, refl)
-  has_terms p _ ls ts h = absurd h
+  has_a_block p (Some tails.Terms) ls ts h = (refl, refl)
+  has_a_block p _ ls ts h = absurd h
 
   has_no_body : (p : Position) (k : Option TailKind) (ls : PathSet) (t : Tail) → is_plain (tail t) ≡ true
       → IsTail s (IsLawful s levels) p k ls t → not (has_body k) ≡ true
@@ -200,7 +214,7 @@ module _ (s : Setting) (levels : ℕ) where
   has_a_body p (Some tails.Body) ls start len h = refl
   has_a_body p _ ls start len h = absurd h
 
-no_method : (o : ℕ) (r : Row) → row_of o ≡ Some r → not (has_body r.tail) ≡ true
+pub no_method : (o : ℕ) (r : Row) → row_of o ≡ Some r → not (has_body r.tail) ≡ true
     → not (is_method (row_of o)) ≡ true
 no_method o r e h = ap (λ (x : Option Row). not (is_method x)) e ∙ h
 
@@ -329,20 +343,20 @@ module _ (code : List ℕ) where
       (λ m out. method_opens m level o (row_of o) w n flags start len listed))
 
   -- a term with terms inside
-  block_term : (s : Setting) (levels : ℕ) (p : Position) (ls : PathSet) (level o : ℕ) (w : Option PkgWidth) (ps : Parts)
-      (ts : Trees)
-      → IsLawful s (suc levels) p ls (op o w ps (terms ts)) → not (is_method (row_of o)) ≡ true
+  pub block_term : (s : Setting) (levels : ℕ) (ls : PathSet) (level o : ℕ) (w : Option PkgWidth) (ks : List PartKind)
+      (ps : Parts) (ts : Trees)
+      → AreParts (λ q. IsLawful s levels q ls) ks ps → not (is_method (row_of o)) ≡ true
       → Adds code (line_pieces (deeper level) ts) (λ bs. terms_lines code (Some bs) (deeper level) ts)
       (all_levels (deeper level) ts)
       → Adds code (term_pieces level (op o w ps (terms ts)))
       (λ bs. op_lines code (Some bs) level o ps (terms ts)) (all_levels (deeper level) ts)
-  block_term s levels p ls level o w ps ts h none inside =
+  block_term s levels ls level o w ks ps ts h none inside =
       let before = line_of level ∷ opcode o (row_of o) w (part_count ps)
       ∷ (parts_pieces level ps ++ end_of_parts (row_of o) (part_count ps) ∷ list tails.Terms ∷ []) in
       let within = line_pieces (deeper level) ts in
       let after = end_of_list tails.Terms level ∷ end_of_line ∷ [] in
       let lines = λ (bs : List BodyLines). terms_lines code (Some bs) (deeper level) ts in
-      let parts = plain_parts s levels ls level h.row.parts ps h.parts in
+      let parts = plain_parts s levels ls level ks ps h in
       let plain = plain_op level o w ps (row_of o) (list tails.Terms ∷ []) none parts refl in
       let rest = adds_both code within after lines (λ bs. text_of after) (all_levels (deeper level) ts) [] inside
       (adds_plain code after refl) in
@@ -350,82 +364,83 @@ module _ (code : List ℕ) where
       (all_levels (deeper level) ts ++ []) (adds_plain code before plain) rest in
       let same : before ++ (within ++ after) ≡ term_pieces level (op o w ps (terms ts)) = simp append_assoc in
       let head = ap (λ l. indent level ++ l) (head_text_of level o w ps (list tails.Terms ∷ [])
-      (parts_text s levels ls level h.row.parts ps h.parts)) in
+      (parts_text s levels ls level ks ps h)) in
       adds_same code (before ++ (within ++ after)) (term_pieces level (op o w ps (terms ts)))
       (λ bs. text_of before ++ (lines bs ++ text_of after)) (λ bs. op_lines code (Some bs) level o ps (terms ts))
       (all_levels (deeper level) ts ++ []) (all_levels (deeper level) ts) all same
       (λ bs. block_around level (text_of before) (head_of o ps) (lines bs) head) (append-nil (all_levels (deeper level) ts))
+
+  -- a term without terms inside
+  pub line_term : (s : Setting) (levels : ℕ) (p : Position) (ls : PathSet) (level : ℕ) (t : Tree) → holds_none t ≡ true
+      → Keeps p t → IsLawful s levels p ls t
+      → Adds code (term_pieces level t) (λ bs. term_lines code (Some bs) level t) (levels_in level t)
+  line_term s zero p ls level t l keeps h = absurd h
+  line_term s (suc levels) p ls level nothing l keeps h = flat_term s (suc levels) p ls level nothing h refl
+  line_term s (suc levels) p ls level (named n ts) l keeps h =
+      flat_term s (suc levels) p ls level (named n ts) h
+      (plain_then (items level ts) (end_of_call (tree_count ts)) refl
+      (plain_items s levels positions.Argument ls level ts refl h.3))
+  line_term s (suc levels) p ls level (op o w ps t) l keeps h =
+      line_op s levels p ls level o w ps t l h
+      (subst (λ (k : Option TailKind). IsTail s (IsLawful s levels) (terms_in p h.row.place) k ls t)
+      (keeps h.row h.listed) h.tail)
+    where
+      line_op : (s : Setting) (levels : ℕ) (p : Position) (ls : PathSet) (level o : ℕ) (w : Option PkgWidth)
+          (ps : Parts) (t : Tail) → is_a_line t ≡ true → (h : IsLawful s (suc levels) p ls (op o w ps t))
+          → IsTail s (IsLawful s levels) (terms_in p h.row.place) h.row.tail ls t
+          → Adds code (term_pieces level (op o w ps t)) (λ bs. op_lines code (Some bs) level o ps t)
+          (tail_levels (deeper level) t)
+      line_op s levels p ls level o w ps (terms ts) l h kept = absurd cc
+      line_op s levels p ls level o w ps (body start len) l h kept =
+          method_term s levels p ls level o w ps start len h
+          (has_a_body s levels (terms_in p h.row.place) h.row.tail ls start len kept)
+      line_op s levels p ls level o w ps t l h kept =
+          let q = terms_in p h.row.place in
+          flat_op s levels p ls level o w ps t h
+          (no_method o h.row h.listed (has_no_body s levels q h.row.tail ls t refl kept))
+          (plain_kept s levels q h.row.tail ls level t refl l kept)
+
+  -- a term, and those behind it
+  pub terms_then : (level : ℕ) (t : Tree) (ts : Trees)
+      → Adds code (term_pieces level t) (λ bs. term_lines code (Some bs) level t) (levels_in level t)
+      → Adds code (line_pieces level ts) (λ bs. terms_lines code (Some bs) level ts) (all_levels level ts)
+      → Adds code (line_pieces level (tree_more t ts)) (λ bs. terms_lines code (Some bs) level (tree_more t ts))
+      (all_levels level (tree_more t ts))
+  terms_then level t ts first rest =
+      let lines = λ (bs : List BodyLines). terms_lines code (Some bs) level (tree_more t ts) in
+      let levels = all_levels level (tree_more t ts) in
+      let all = adds_both code (term_pieces level t) (line_pieces level ts) (λ bs. term_lines code (Some bs) level t)
+      (λ bs. terms_lines code (Some bs) level ts) (levels_in level t) (all_levels level ts) first rest in
+      let same : term_pieces level t ++ line_pieces level ts ≡ line_pieces level (tree_more t ts) = simp append_assoc in
+      adds_same code (term_pieces level t ++ line_pieces level ts) (line_pieces level (tree_more t ts)) lines lines levels
+      levels all same (λ bs. refl) refl
 
   mutual
     table_term : (s : Setting) (levels : ℕ) (p : Position) (ls : PathSet) (level : ℕ) (t : Tree) → is_table p ≡ true
         → IsLawful s levels p ls t
         → Adds code (term_pieces level t) (λ bs. term_lines code (Some bs) level t) (levels_in level t)
     table_term s zero p ls level t i h = absurd h
-    table_term s (suc levels) p ls level nothing i h = flat_term s (suc levels) p ls level nothing h refl
-    table_term s (suc levels) p ls level (named n ts) i h =
-        flat_term s (suc levels) p ls level (named n ts) h
-        (plain_then (items level ts) (end_of_call (tree_count ts)) refl
-        (plain_items s levels positions.Argument ls level ts refl h.3))
-    table_term s (suc levels) p ls level (op o w ps t) i h =
-        let kept = subst (λ (k : Option TailKind). IsTail s (IsLawful s levels) (terms_in p h.row.place) k ls t)
-        (table_tail p h.row.tail i) h.tail in
-        table_op s levels p ls level o w ps t i h kept
-
-    table_op : (s : Setting) (levels : ℕ) (p : Position) (ls : PathSet) (level o : ℕ) (w : Option PkgWidth) (ps : Parts)
-        (t : Tail) → is_table p ≡ true → (h : IsLawful s (suc levels) p ls (op o w ps t))
-        → IsTail s (IsLawful s levels) (terms_in p h.row.place) h.row.tail ls t
-        → Adds code (term_pieces level (op o w ps t)) (λ bs. op_lines code (Some bs) level o ps t)
-        (tail_levels (deeper level) t)
-    table_op s levels p ls level o w ps (terms ts) i h kept =
+    table_term s (suc levels) p ls level (op o w ps (terms ts)) i h =
         let q = terms_in p h.row.place in
-        let has = has_terms s levels q h.row.tail ls ts kept in
+        let kept = subst (λ (k : Option TailKind). IsTail s (IsLawful s levels) q k ls (terms ts))
+        (table_tail p h.row.tail i) h.tail in
+        let has = has_a_block s levels q h.row.tail ls ts kept in
         let taken = taker_takes p h.row.place h.taken in
-        block_term s levels p ls level o w ps ts h (no_method o h.row h.listed has.1)
+        block_term s levels ls level o w h.row.parts ps ts h.parts (no_method o h.row h.listed has.1)
         (table_terms s levels q ls (deeper level) ts (inside_table p o h.row i h.listed taken has.0)
         (tail_terms s levels q h.row.tail ls ts kept))
-    table_op s levels p ls level o w ps (body start len) i h kept =
-        method_term s levels p ls level o w ps start len h
-        (has_a_body s levels (terms_in p h.row.place) h.row.tail ls start len kept)
-    table_op s levels p ls level o w ps (elements ts) i h kept =
-        let q = terms_in p h.row.place in
-        flat_op s levels p ls level o w ps (elements ts) h
-        (no_method o h.row h.listed (has_no_body s levels q h.row.tail ls (elements ts) refl kept))
-        (plain_element_tail s levels q h.row.tail ls level ts kept)
-    table_op s levels p ls level o w ps (fields us) i h kept =
-        let q = terms_in p h.row.place in
-        flat_op s levels p ls level o w ps (fields us) h
-        (no_method o h.row h.listed (has_no_body s levels q h.row.tail ls (fields us) refl kept))
-        (plain_field_tail s levels q h.row.tail ls level us kept)
-    table_op s levels p ls level o w ps empty i h kept =
-        flat_op s levels p ls level o w ps empty h
-        (no_method o h.row h.listed (has_no_body s levels (terms_in p h.row.place) h.row.tail ls empty refl kept)) refl
-    table_op s levels p ls level o w ps (bytes bs) i h kept =
-        flat_op s levels p ls level o w ps (bytes bs) h
-        (no_method o h.row h.listed (has_no_body s levels (terms_in p h.row.place) h.row.tail ls (bytes bs) refl kept))
-        refl
+    table_term s (suc levels) p ls level t i h = line_term s (suc levels) p ls level t refl (table_keeps p t i) h
 
     table_terms : (s : Setting) (levels : ℕ) (p : Position) (ls : PathSet) (level : ℕ) (ts : Trees) → is_table p ≡ true
         → AreTerms s levels p ls ts
         → Adds code (line_pieces level ts) (λ bs. terms_lines code (Some bs) level ts) (all_levels level ts)
     table_terms s levels p ls level no_trees i h = adds_none code
     table_terms s levels p ls level (tree_more t ts) i h =
-        let first = term_pieces level t in
-        let rest = line_pieces level ts in
-        let all = adds_both code first rest (λ bs. term_lines code (Some bs) level t)
-        (λ bs. terms_lines code (Some bs) level ts) (levels_in level t) (all_levels level ts)
-        (table_term s levels p ls level t i h.0)
-        (table_terms s levels (next_position p t) (after s.scope ls t) level ts (table_next p t i) h.1) in
-        let same : first ++ rest ≡ line_pieces level (tree_more t ts) = simp append_assoc in
-        adds_same code (first ++ rest) (line_pieces level (tree_more t ts))
-        (λ bs. terms_lines code (Some bs) level (tree_more t ts)) (λ bs. terms_lines code (Some bs) level (tree_more t ts))
-        (all_levels level (tree_more t ts)) (all_levels level (tree_more t ts)) all same (λ bs. refl) refl
+        terms_then level t ts (table_term s levels p ls level t i h.0)
+        (table_terms s levels (next_position p t) (after s.scope ls t) level ts (table_next p t i) h.1)
 
-  pub woven_lines : (bs : List BodyLines) (level : ℕ) (ts : Trees) → ReadsModule code ts
-      → (weave code bs (made (line_pieces level ts)) ≡ terms_lines code (Some bs) level ts)
-      × (place_levels (made (line_pieces level ts)).places ≡ all_levels level ts)
+  pub module_adds : (level : ℕ) (ts : Trees) → ReadsModule code ts
+      → Adds code (line_pieces level ts) (λ bs. terms_lines code (Some bs) level ts) (all_levels level ts)
   unfolding is_table
-  woven_lines bs level ts h =
-      let all = table_terms (setting_of no_arguments None code) most_levels positions.ModuleTerm set.empty level ts refl
-      h.lawful in
-      let ready : IsReady unmade = (refl, omega arith) in
-      (all.text unmade ready bs, all.places unmade ready)
+  module_adds level ts h =
+      table_terms (setting_of no_arguments None code) most_levels positions.ModuleTerm set.empty level ts refl h.lawful

@@ -1,10 +1,9 @@
 -- A definition block of which the text was told is that of the table's terms.
 use Rattle.asl_text.proofs.Common.{◌≡◌, [], ◌++◌, ℕ, List, length, drop, sym, ap, ◌∙◌, quoted, word, block}
 use Rattle.std.proofs.lemmas.List.{length-map}
-use Rattle.aml_code.specs.Pieces.{line_pieces}
 use Rattle.aml_code.specs.Tree.{Trees}
-use Rattle.asl_text.proofs.TableLaws.{woven_lines}
-use Rattle.asl_text.specs.Tables.{IsTold, made, place_levels, told_block_text, woven}
+use Rattle.asl_text.proofs.StepLaws.{woven_lines}
+use Rattle.asl_text.specs.Tables.{IsTold, place_levels, told_block_text, woven}
 use Rattle.asl_text.specs.Texts.{BodyLines, all_levels, block_text, left_all}
 use Rattle.asl_text.specs.declared.tables.Place.{Place}
 use Rattle.asl_text.specs.declared.tables.TableText.{TableText}

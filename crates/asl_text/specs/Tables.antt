@@ -1,14 +1,18 @@
 -- The text of a table's terms, made as their pieces are told: their lines without the bodies of methods, and the places
 -- where the lines of these go.
-use Rattle.std.specs.Prelude.{◌≡◌, ℕ, Bool, true, false, List, [], ◌∷◌, ◌++◌, ◌-◌, length, map, take, drop}
-use Rattle.std.specs.Prelude.{Option, Some, None}
+use Rattle.std.specs.Prelude.{◌≡◌, ◌⊎◌, ℕ, Bool, true, false, List, [], ◌∷◌, ◌++◌, ◌-◌, length, map, take, drop}
+use Rattle.std.specs.Prelude.{Option, Some, None, option_map, unwrap_or}
+use Rattle.std.specs.FinSet as set
 use Rattle.std.specs.List.{fold}
+use Rattle.aml_code.specs.declared.rows.Position.{Position}
+use Rattle.aml_code.specs.declared.rows.Position.TheVariants as positions
 use Rattle.aml_code.specs.declared.rows.TailKind.{TailKind}
 use Rattle.aml_code.specs.declared.rows.TailKind.TheVariants as kinds
-use Rattle.aml_code.specs.Lawful.{ReadsModule}
-use Rattle.aml_code.specs.Opcodes.{Row}
+use Rattle.aml_code.specs.Faults.{Arities}
+use Rattle.aml_code.specs.Lawful.{IsLawful, ReadsModule, setting_of}
+use Rattle.aml_code.specs.Opcodes.{Row, row_of}
 use Rattle.aml_code.specs.Pieces.{Told, opcode, next, part, tail, line, deeper, line_pieces}
-use Rattle.aml_code.specs.Tree.{Trees, slice_of, byte, body}
+use Rattle.aml_code.specs.Tree.{Tree, op, Trees, no_trees, tree_more, terms, slice_of, byte, body}
 use Rattle.asl_text.specs.declared.tables.Place.{Place}
 use Rattle.asl_text.specs.declared.tables.TableLines.{TableLines}
 use Rattle.asl_text.specs.declared.tables.TableText.{TableText}
@@ -118,9 +122,43 @@ woven code bs text from (p ∷ ps) =
 abbrev pub place_levels : List Place → List ℕ
 place_levels ps = map (λ p. p.level) ps
 
--- the text was told of these terms, as which this AML of a table reads
+-- ---- A table whose code may run is read from the left, a term by each step.
+
+-- A term as a step reads it: by some counts, with some levels, it is lawful where such a table's code may run. Of the
+-- terms inside it their span alone is kept. Where its bytes stand isn't said.
+pub record IsStep (code : List ℕ) (t : Tree) : Type 0 where
+  pub arity : Arities
+  pub levels : ℕ
+  pub position : Position
+  pub runs : (position ≡ positions.RunTerm) ⊎ (position ≡ positions.RunAfterIf)
+  pub lawful : IsLawful (setting_of arity None code) levels position set.empty t
+
+abbrev pub has_terms : Option TailKind → Bool
+has_terms (Some kinds.Terms) = true
+has_terms _ = false
+
+-- a term with terms inside it
+abbrev pub is_block : Tree → Bool
+is_block (op o w ps t) = unwrap_or (option_map (λ (r : Row). has_terms r.tail) (row_of o)) false
+is_block _ = false
+
+abbrev mutual
+  -- terms, each as a step of its own reads it
+  pub AreSteps : List ℕ → Trees → Type 0
+  AreSteps code no_trees = Unit {0}
+  AreSteps code (tree_more t ts) = StandsIn code t × AreSteps code ts
+
+  -- such a term, with the terms inside it, which are so too, in place of their span
+  pub StandsIn : List ℕ → Tree → Type 0
+  StandsIn code (op o w ps (terms ts)) =
+      ((start : ℕ) × (len : ℕ) × IsStep code (op o w ps (body start len))
+      × (is_block (op o w ps (body start len)) ≡ true)) × AreSteps code ts
+  StandsIn code t = IsStep code t × (is_block t ≡ false)
+
+-- The text was told of these terms: as these the AML of a table reads, or, where its code may run, each of them is as a
+-- step reads it.
 abbrev pub IsTold : List ℕ → Trees → TableText → Type 0
-IsTold code ts text = ReadsModule code ts × IsMade (line_pieces 1 ts) text
+IsTold code ts text = (ReadsModule code ts ⊎ AreSteps code ts) × IsMade (line_pieces 1 ts) text
 
 -- a definition block of which the text of the terms was told, with these bodies in their places
 abbrev pub told_block_text : List ℕ → List ℕ → TableText → List BodyLines → List ℕ

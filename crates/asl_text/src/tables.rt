@@ -14,7 +14,7 @@ use crate::blocks::print_flags;
 use crate::bounded::Bounded;
 use crate::lines::print_indent;
 use crate::told::print_piece;
-use aml_code::{CodeFault, NoMemory, OpRow, Piece, PkgWidth, Sink, TableSink, TailKind, Telling};
+use aml_code::{NoMemory, OpRow, Piece, PkgWidth, Sink, TableSink, TailKind, Telling};
 use std::alloc::{AllocError, Global};
 use std::io::Write;
 use text_writer::Out;
@@ -167,7 +167,7 @@ fn print_pieces<T: Telling>(
     out: &mut Out<'_, Bounded>,
     places: &mut Vec<Place>,
     telling: T,
-) -> Result<T::Made, CodeFault>
+) -> Result<T::Made, T::Fault>
     requires { T.can_tell telling }
     ensures told { IfOk result (λ made. (ps : List Told) × (T.tells telling made ps ×
         MakesOf out.old out.new places.old.items places.new.items ps)) }
@@ -188,7 +188,7 @@ fn told_table<T: Telling>(
     alloc: Global,
     most: usize,
     telling: T,
-) -> Result<(T::Made, Option<TableText>), CodeFault>
+) -> Result<(T::Made, Option<TableText>), T::Fault>
     requires { T.can_tell telling }
     ensures told { IfOk result (λ x. (ps : List Told) × (T.tells telling x.0 ps × IfSome x.1 (IsMade ps))) }
     ensures fails { IfErr result (T.fails telling) }
@@ -231,7 +231,7 @@ impl TableSink for TableTexts {
         &self,
         bytes: usize,
         telling: T,
-    ) -> Result<(T::Made, Option<TableText>), CodeFault> {
+    ) -> Result<(T::Made, Option<TableText>), T::Fault> {
         told_table(self.alloc, most_of(bytes), telling)
     }
 }

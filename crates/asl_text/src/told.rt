@@ -19,7 +19,7 @@ use crate::texts::{
     is_constant, print_braced_bytes, print_byte, print_dword, print_qword, print_word,
 };
 use crate::words::print_name;
-use aml_code::{CodeFault, Name, NoMemory, OpRow, Piece, Sink, TailKind, Telling};
+use aml_code::{Name, NoMemory, OpRow, Piece, Sink, TailKind, Telling};
 use std::io::Write;
 use text_writer::{Out, print_quoted};
 
@@ -175,7 +175,7 @@ impl<W: Write> Sink for Lines<'_, '_, W> {
 pub(crate) fn print_told<W: Write, T: Telling>(
     out: &mut Out<'_, W>,
     telling: T,
-) -> Result<T::Made, CodeFault>
+) -> Result<T::Made, T::Fault>
     requires { T.can_tell telling }
     ensures told { IfOk result (λ made. (ps : List Told) × (T.tells telling made ps ×
         Prints W.contents out.old out.new (flat_map piece_text ps))) }

@@ -9,7 +9,7 @@ ghost use Rattle.asl_text.specs.Texts.{lines, all_lines};
 use crate::bounded::Bounded;
 use crate::lines::print_terms;
 use crate::told::print_told;
-use aml_code::{CodeFault, NoMemory, Node, Telling};
+use aml_code::{NoMemory, Node, Telling};
 use std::alloc::{AllocError, Global};
 use std::io::Write;
 use std::slice;
@@ -56,7 +56,7 @@ fn write_told<W: Write, T: Telling>(
     out: &mut W,
     telling: T,
     buffer: &mut [u8],
-) -> Result<Result<(), WriteFault>, CodeFault>
+) -> Result<Result<(), WriteFault>, T::Fault>
     requires { T.can_tell telling }
     ensures told { IfOk result (λ written. (made : T.Made) × (ps : List Told) × (T.tells telling made ps ×
         Writes (W.contents out.old) (W.contents out.new) (flat_map piece_text ps) written)) }
@@ -73,7 +73,7 @@ pub fn told_text<T: Telling>(
     alloc: Global,
     most: usize,
     telling: T,
-) -> Result<Option<Vec<u8>>, CodeFault>
+) -> Result<Option<Vec<u8>>, T::Fault>
     requires { T.can_tell telling }
     ensures told { IfOk result (λ text. IfSome text (λ t. (made : T.Made) × (ps : List Told) ×
         (T.tells telling made ps × (t.items ≡ flat_map piece_text ps)))) }

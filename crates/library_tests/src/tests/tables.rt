@@ -3,7 +3,7 @@ ghost use Rattle.std.specs.Prelude.{◌≤◌, length};
 
 use super::fixtures::{Want, is_whole_or_no_memory};
 use aml_code::CodeFault;
-use aml_load::{LoadFault, load_names};
+use aml_load::{LoadFault, LoadRules, load_names};
 use aml_names::Seg;
 use aml_set::{Method, Table, TableSet};
 use aml_space::SpaceFault;
@@ -49,13 +49,22 @@ DefinitionBlock (\"\") {
 type Loaded<'a> = (TableSet<'a>, Vec<Option<TableText>>);
 
 /// The load of the first table and of another behind it, which keeps their texts in place of their terms.
-fn load_behind(alloc: Global, other: &'static [u8]) -> Result<Loaded<'static>, LoadFault>
+fn load_behind(
+    alloc: Global,
+    other: &'static [u8],
+    any_run: bool,
+) -> Result<Loaded<'static>, LoadFault>
     requires { length other.now ≤ 16777216 }
 {
     let mut tables = Vec::new(alloc);
     tables.push(Table::unread(alloc, 0, FIRST))?;
     tables.push(Table::unread(alloc, 1, other))?;
-    load_names(alloc, tables, &[], &TableTexts { alloc })
+    let rules = LoadRules {
+        givens: &[],
+        any_run,
+        unknown_zero: false,
+    };
+    load_names(alloc, tables, rules, &TableTexts { alloc })
 }
 
 /// What is kept of the bodies of the two methods: the lines of the first, and that the second can't be read.
@@ -139,7 +148,15 @@ fn is_refused(answer: &Result<Loaded<'_>, LoadFault>, cut: bool) -> Result<bool,
 #[test]
 fn told_tables_or_no_memory(rt: HostRuntime) {
     let alloc = rt.alloc();
-    let set = load_behind(alloc, SECOND);
+    let set = load_behind(alloc, SECOND, false);
+    assert!(rt; is_whole_or_no_memory(&rt, is_set(alloc, &set)));
+}
+
+/// Where the code outside methods may run, these tables mean the same.
+#[test]
+fn told_runs_or_no_memory(rt: HostRuntime) {
+    let alloc = rt.alloc();
+    let set = load_behind(alloc, SECOND, true);
     assert!(rt; is_whole_or_no_memory(&rt, is_set(alloc, &set)));
 }
 
@@ -147,6 +164,17 @@ fn told_tables_or_no_memory(rt: HostRuntime) {
 #[test]
 fn told_tables_are_refused_or_no_memory(rt: HostRuntime) {
     let alloc = rt.alloc();
-    assert!(rt; is_whole_or_no_memory(&rt, is_refused(&load_behind(alloc, GONE), false)));
-    assert!(rt; is_whole_or_no_memory(&rt, is_refused(&load_behind(alloc, GONE_AND_CUT), true)));
+    assert!(rt; is_whole_or_no_memory(&rt, is_refused(&load_behind(alloc, GONE, false), false)));
+    assert!(rt;
+        is_whole_or_no_memory(
+            &rt,
+            is_refused(&load_behind(alloc, GONE_AND_CUT, false), true)
+        )
+    );
+    assert!(rt;
+        is_whole_or_no_memory(
+            &rt,
+            is_refused(&load_behind(alloc, GONE_AND_CUT, true), true)
+        )
+    );
 }

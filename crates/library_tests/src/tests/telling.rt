@@ -18,6 +18,8 @@ struct Code<'c> {
 impl Telling for Code<'_> {
     type Made = ();
 
+    type Fault = CodeFault;
+
     ghost can_tell = { λ t. length t.code.now ≤ 16777216 };
 
     ghost tells = { λ _ _ _. ⊤ };

@@ -1,6 +1,5 @@
-use Rattle.acpidis.proofs.Common.{ℕ, List, table_codes, subst, sym, ◌∙◌}
+use Rattle.acpidis.proofs.Common.{table_codes, ◌∙◌}
 use Rattle.acpidis.proofs.MeaningLaws.{set_so, none_meant}
-use Rattle.acpidis.specs.Told.{AreTexts}
 use Rattle.acpidis.proofs.disassembling.load_names_set.Goals as goal
 
 pub returns-in-Err-clause-complete : goal.returns-in-Err-clause-complete
@@ -12,11 +11,10 @@ pub returns-clause-set : goal.returns-clause-set
 returns-clause-set c =
     let loads = c.in-Ok.ensures.loads in (
       loads.0,
-      set_so c.args.dumps.now c.args.options.now c.in_ok-order.order (table_codes c.in_ok-tables.tables.items)
-          c.in_ok-order.ensures.order c.in_ok-order.ensures.only c.in_ok-tables.ensures.codes
-          c.in-Ok.loaded.0 loads.0 (c.in-Ok.ensures.dumps ∙ c.in_ok-tables.ensures.dumps) loads.1 loads.2 c.in-Ok.ensures.few,
+      (
+        set_so c.args.dumps.now c.args.options.now c.in_ok-order.order (table_codes c.in_ok-tables.tables.items)
+            c.in_ok-order.ensures.order c.in_ok-order.ensures.only c.in_ok-tables.ensures.codes
+            c.in-Ok.loaded.0 loads.0 (c.in-Ok.ensures.dumps ∙ c.in_ok-tables.ensures.dumps) loads.1 loads.2 c.in-Ok.ensures.few,
+        loads.3,
+      ),
     )
-
-pub returns-clause-texts : goal.returns-clause-texts
-returns-clause-texts c =
-    subst (λ (cs : List (List ℕ)). AreTexts cs c.in-Ok.loaded.1.items) (sym c.in-Ok.ensures.loads.1.3.tables) c.in-Ok.ensures.texts

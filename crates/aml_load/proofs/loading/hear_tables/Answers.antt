@@ -1,8 +1,9 @@
-use Rattle.std.proofs.Common.{◌≡◌, ℕ, [], ◌∷◌, ◌++◌, ◌+◌, ◌<◌, List, false, drop, get_or, length, refl, sym, ap, subst, ◌∙◌, arith}
-use Rattle.std.proofs.Common.{append_assoc}
+use Rattle.std.proofs.Common.{◌≡◌, ℕ, [], ◌∷◌, ◌++◌, ◌+◌, ◌<◌, List, drop, get_or, length, refl, sym, ap, subst, ◌∙◌, arith}
 use Rattle.std.proofs.Math.ListN.{drop_of_length-le}
-use Rattle.std.proofs.lemmas.List.{length-map, get_or-map, drop_more, append-nil}
+use Rattle.std.proofs.lemmas.List.{length-map, get_or-map, drop_more}
 use Rattle.std.proofs.lemmas.Result.{err_from_is_err_and}
+use Rattle.aml_code.specs.Pieces.{Told, line_pieces}
+use Rattle.aml_code.specs.Tree.{Trees}
 use Rattle.aml_set.specs.Views.{table_codes}
 use Rattle.aml_set.specs.declared.tables.Table.{Table}
 use Rattle.aml_load.specs.Kept.{AreKeptOf}
@@ -12,11 +13,16 @@ use Rattle.aml_load.proofs.loading.hear_tables.Goals as goal
 
 pub loop-number-init : goal.loop-number-init
 loop-number-init g c =
-    let keeps = g.S.TableSink.keeps in (
-      λ l h. ([], l, h, refl),
-      λ rest kept. subst (AreKeptOf keeps c.args.sink.now (table_codes c.args.tables.now))
-          (sym (ap (λ xs. xs ++ rest) c.new-kept.ensures.items)) kept,
-    )
+    let keeps = g.S.TableSink.keeps in
+    ([], (subst (AreKeptOf keeps c.args.sink.now []) (sym c.new-kept.ensures.items) tt, λ l h. (l, h, refl)))
+
+-- of one table more
+kept_more : {S K : Type 0} (keeps : S → List Told → K → Type 0) (s : S) (trees : List Trees) (xs : List K) (ts : Trees) (x : K)
+    → AreKeptOf keeps s trees xs → keeps s (line_pieces 1 ts) x → AreKeptOf keeps s (trees ++ ts ∷ []) (xs ++ x ∷ [])
+kept_more keeps s [] [] ts x all one = (one, tt)
+kept_more keeps s [] (y ∷ xs) ts x all one = absurd all
+kept_more keeps s (us ∷ trees) [] ts x all one = absurd all
+kept_more keeps s (us ∷ trees) (y ∷ xs) ts x all one = (all.0, kept_more keeps s trees xs ts x all.1 one)
 
 -- the AML of the table with this number
 module _ (ts : List Table) (n : ℕ) (t : Table) (inside : n < length ts) where
@@ -35,57 +41,46 @@ module _ (ts : List Table) (n : ℕ) (t : Table) (inside : n < length ts) where
 pub loop-number-preserved : goal.loop-number-preserved
 loop-number-preserved g c =
     let ts = c.args.tables.now in
+    let any = c.args.any_run in
     let n = c.loop-number.number in
     let t = c.index-tables-number.result in
     let inside : n < length ts = omega (arith, c.loop-number.auto.number-end, c.loop-number-test.true) in
-    let keeps = g.S.TableSink.keeps in
-    let s = c.args.sink.now in
-    let x = c.in_ok-progress.one in
-    let was = c.loop-number.kept.items in (
-      λ l h.
-          let w = c.loop-number.invariant.0 l h in
-          let read = c.in_ok-progress.ensures.heard w.1 w.2 in (
-            w.0 ++ read.0 ∷ [],
-            read.1,
-            read.2,
-            read_on false n w.1 w.0 (table_codes ts) (code ts n t inside) (among ts n t inside) (there ts n t inside) read.0 read.1 _ _ _
-                read.3 refl refl w.3,
-          ),
-      λ rest kept.
-          subst (AreKeptOf keeps s (table_codes ts))
-          (sym (append_assoc was (x ∷ []) rest) ∙ ap (λ xs. xs ++ rest) (sym c.in_ok-push.ensures.items))
-          (c.loop-number.invariant.1 (x ∷ rest)
-          (subst (λ cs. AreKeptOf keeps s cs (x ∷ rest)) (sym (cut ts n t inside)) (c.in_ok-progress.ensures.kept, kept))),
+    let inv = c.loop-number.invariant in
+    let one = c.in_ok-progress.ensures.heard in (
+      inv.0 ++ one.0 ∷ [],
+      (
+        subst (AreKeptOf g.S.TableSink.keeps c.args.sink.now (inv.0 ++ one.0 ∷ [])) (sym c.in_ok-push.ensures.items)
+            (kept_more g.S.TableSink.keeps c.args.sink.now inv.0 c.loop-number.kept.items one.0 c.in_ok-progress.one inv.1.0 one.1.0),
+        λ l h.
+            let w = inv.1.1 l h in
+            let read = one.1.1 w.0 w.1 in (
+              read.0,
+              read.1,
+              read_on any n w.0 inv.0 (table_codes ts) (code ts n t inside) (among ts n t inside) (there ts n t inside) one.0 read.0 _ _ _
+                  read.2 refl refl w.2,
+            ),
+      ),
     )
 
-pub returns-in_err-progress-clause-heard : goal.returns-in_err-progress-clause-heard
-returns-in_err-progress-clause-heard g c = λ l h.
+pub returns-in_err-progress-clause-fails : goal.returns-in_err-progress-clause-fails
+returns-in_err-progress-clause-fails g c =
     let ts = c.args.tables.now in
     let n = c.loop-number.number in
     let t = c.index-tables-number.result in
-    let w = c.loop-number.invariant.0 l h in
+    let inv = c.loop-number.invariant in
     let inside : n < length ts = omega (arith, c.loop-number.auto.number-end, c.loop-number-test.true) in
     let gave = err_from_is_err_and c.from_residual.result c.from_residual.ensures.1 in
-    rw (gave.1, gave.2)
-    (fails_on false n w.1 w.0 (table_codes ts) (code ts n t inside) (among ts n t inside) (there ts n t inside) _ _
-    (c.in_err-progress.ensures.heard w.1 w.2) w.3)
+    rw (gave.1, gave.2) (λ l h.
+    let w = inv.1.1 l h in
+    fails_on c.args.any_run n w.0 inv.0 (table_codes ts) (code ts n t inside) (among ts n t inside) (there ts n t inside) _ _
+    (c.in_err-progress.ensures.fails w.0 w.1) w.2)
 
 pub returns-clause-heard : goal.returns-clause-heard
 unfolding tables_at
-returns-clause-heard g c = λ l h.
+returns-clause-heard g c =
     let ts = c.args.tables.now in
     let n = c.loop-number.number in
-    let w = c.loop-number.invariant.0 l h in
+    let inv = c.loop-number.invariant in
     let none : drop n (table_codes ts) ≡ [] =
     drop_of_length-le (table_codes ts) (omega (arith, c.loop-number.auto.number-end, c.loop-number-test.false, length-map ts (λ (t : Table). t.code.now))) in
-    (w.0, w.1, w.2, sym w.3 ∙ ap (tables_at false n w.0 w.1) none)
-
-pub returns-clause-kept : goal.returns-clause-kept
-returns-clause-kept g c =
-    let ts = c.args.tables.now in
-    let keeps = g.S.TableSink.keeps in
-    let s = c.args.sink.now in
-    let none : drop c.loop-number.number (table_codes ts) ≡ [] =
-    drop_of_length-le (table_codes ts) (omega (arith, c.loop-number.auto.number-end, c.loop-number-test.false, length-map ts (λ (t : Table). t.code.now))) in
-    subst (AreKeptOf keeps s (table_codes ts)) (append-nil c.loop-number.kept.items)
-    (c.loop-number.invariant.1 [] (subst (λ cs. AreKeptOf keeps s cs []) (sym none) tt))
+    (inv.0, (inv.1.0, λ l h. let w = inv.1.1 l h in (w.0, w.1, sym w.2 ∙ ap (tables_at c.args.any_run n inv.0 w.0) none)))

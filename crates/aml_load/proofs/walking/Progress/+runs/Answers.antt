@@ -1,8 +1,9 @@
 use Rattle.std.proofs.Common.{◌≡◌, ◌+◌, ◌-◌, Ok, refl, sym, ap, subst, ◌∙◌, arith, rules}
+use Rattle.aml_code.specs.Faults.{IsEnd}
 use Rattle.aml_code.specs.View.{node_view}
 use Rattle.aml_parse.specs.Running.{run_term_at, run_terms_at}
 use Rattle.aml_load.specs.Running.{entered_at, run_names}
-use Rattle.aml_load.specs.Runner.{front_at, below, Came, Ran, RoomBy, HasRoom}
+use Rattle.aml_load.specs.Runner.{front_at, below, Came, Ran, RoomBy}
 use Rattle.aml_load.specs.Tables.{Fails}
 use Rattle.aml_load.specs.Walking.{at_site, Holds}
 use Rattle.aml_load.proofs.Inside.{same_site, still_among, keeps_on}
@@ -22,6 +23,19 @@ open-returns-in_ok-terms-in-Some-clause-opens t c l h =
       opened_ok site.table code c.args.levels (node_view c.args.head) (front_at site l) (c.in-Some.start, c.in-Some.len) _ _ is room.0 walk.2
           ∙ ap (λ t. Ok (t, front_at site walk.0)) (sym c.with_terms.ensures),
     )
+
+pub open-overflow_add-inside : goal.open-overflow_add-inside
+open-overflow_add-inside t c =
+    let is = sym c.span_inside.ensures ∙ c.in-Some.is in
+    let room = (subst (RoomBy c.args.code.now c.args.levels) is c.requires.room).1 0 in
+    omega (arith, room.inside, room.short)
+
+pub open-run_terms-requires : goal.open-run_terms-requires
+open-run_terms-requires t c =
+    let is = sym c.span_inside.ensures ∙ c.in-Some.is in
+    let room = subst (RoomBy c.args.code.now c.args.levels) is c.requires.room in
+    let some = room.0 in
+    (search rules, (room.1 0, c.requires.inside))
 
 pub run_term-open-requires : goal.run_term-open-requires
 run_term-open-requires t c = (
@@ -132,9 +146,14 @@ run_terms-loop-turn-preserved t c =
     let read = below r.levels site.table code in
     let n = r.end - c.loop-turn._turn in
     let less : r.end - (c.loop-turn._turn + 1) ≡ n - 1 = omega arith in (
-      subst (λ k. HasRoom code (record { levels = k; position = x.position; at = x.behind; end = r.end })) inv.2
-          (subst (λ k. HasRoom code (record { levels = here.levels; position = x.position; at = x.behind; end = k })) inv.1
-          (room_on code here x.position x.behind inv.0 on.0 on.1 on.2)),
+      (let was = room_on code here x.position x.behind inv.0 on.0 on.1 on.2 in record {
+        short = was.short;
+        run = was.run;
+        le = omega (arith, was.le, inv.1);
+        inside = omega (arith, was.inside, inv.1);
+        is_end = subst (λ k. IsEnd code x.behind k) inv.1 was.is_end;
+        deep = omega (arith, was.deep, inv.2);
+      }),
       refl,
       refl,
       omega (arith, inv.3, on.0),
