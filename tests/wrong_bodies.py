@@ -426,10 +426,7 @@ def judged(rtlib, crate, waiting, kept, is_seeded):
 
 
 def main():
-    given = tally.asked(__doc__, outside=False, all=False, over=TOP, names=())
-    if given.all and given.outside:
-        sys.exit("--all has those of --outside already: give one of them")
-    rtlib = kit()
+    given, rtlib = tally.asked(__doc__, outside=False, all=False, over=TOP, names=()), kit()
     kinds, names = [False, True] if given.all else [given.outside], set(map(str, given.names))
     os.chdir(given.over)
     tasks = []

@@ -7,7 +7,8 @@ pub use Rattle.acpidis.specs.Bodies.{ReadsOrRaw, Became, Reading, reading_of, en
 pub use Rattle.acpidis.specs.Bodies.{has_raw, codes_in}
 pub use Rattle.acpidis.specs.Checks.{mark_of, marks_of, IsKept, AreKept, AreKeptOf, IsSame, has_fault, tried_mark}
 pub use Rattle.acpidis.specs.Checks.{tried_marks, marks_in, IsUnder, Under, added}
-pub use Rattle.acpidis.specs.Checks.{uncounted, tally, tallied, checks_with, check_lines, all_same, same_bytes}
+pub use Rattle.acpidis.specs.Checks.{uncounted, tally, tallied, checks_with, check_lines, all_same, first_check}
+pub use Rattle.aml_code.specs.Encoded.{same_bytes}
 pub use Rattle.acpidis.specs.Checks.{body_same, check_line}
 pub use Rattle.acpidis.specs.Meaning.{Meaning, LoadsBy, LoadsSet, HoldsSet, HasTables, HasTablesBy, Means, IsSet, IsSetBy, codes_of, Shows}
 pub use Rattle.acpidis.specs.Meaning.{order_of}

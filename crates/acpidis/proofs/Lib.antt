@@ -6,6 +6,7 @@ pub mod Spelling
 pub mod MeaningLaws
 pub mod RunLaws
 pub mod ToldLaws
+pub mod TrialLaws
 pub mod CheckLaws
 pub mod SameLaws
 pub mod Taking

@@ -7,11 +7,8 @@ use Rattle.acpidis.proofs.Common.{Order, IsOrder, Body, indexes_in, Options, cod
 use Rattle.acpidis.proofs.Common.{Reading, entry_of, AreReadings}
 use Rattle.acpidis.proofs.Common.{Became, AreBodies, Meaning, LoadsSet, HoldsSet, HasTables, HasTablesBy, Means, IsSetBy, codes_of}
 use Rattle.std.proofs.Common.{◌⊎◌, inl, inr}
-use Rattle.acpidis.specs.Told.{LoadsTexts}
+use Rattle.acpidis.specs.Told.{LoadsKept}
 use Rattle.aml_code.specs.Pieces.{Told}
-use Rattle.asl_text.specs.Tables.{IsMade}
-use Rattle.asl_text.specs.declared.tables.TableText.{TableText}
-use Rattle.asl_text.specs.declared.tables.TableTexts.{TableTexts}
 use Rattle.std.specs.declared.alloc.Global.{Global}
 use Rattle.aml_load.proofs.Loads.{loads_one_way}
 use Rattle.aml_load.specs.Views.{HoldsKept}
@@ -22,7 +19,7 @@ use Rattle.aml_load.specs.Tables.{StopsFor, load_at}
 use Rattle.aml_load.specs.declared.faults.LoadFault.{LoadFault}
 use Rattle.aml_load.specs.declared.faults.LoadFault.TheVariants as loads
 use Rattle.aml_namespace.specs.Namespace.{Givens}
-use Rattle.std.specs.Prelude.{Bool, Err, IfSome, Option, Vec}
+use Rattle.std.specs.Prelude.{Bool, Err, Vec}
 use Rattle.acpidis.proofs.BodyLaws.{are_entries, the_entries, are_told}
 use Rattle.acpidis.specs.declared.refusal.Refusal.TheVariants as refusals
 
@@ -90,18 +87,15 @@ module _ (dumps : List Dump) (options : Options) (order : Order) (codes : List (
 
 -- ---- tables that keep no terms: what they load to goes by the one load of their AML
 
--- what is kept of the pieces of a table
-abbrev keeps : TableTexts → List Told → Option TableText → Type 0
-keeps s ps text = IfSome text (IsMade ps)
-
-module _ (options : Options) (codes : List (List ℕ)) (s : TableTexts) (x : TableSet × Vec (Option TableText) Global) where
+module _ {S K : Type 0} (keeps : S → List ℕ → List Told → K → Type 0) (s : S) (options : Options) (codes : List (List ℕ))
+    (x : TableSet × Vec K Global) where
   abbrev HoldsIt : List Trees → List Entry → Type 0
   HoldsIt trees es = HoldsKept keeps s x codes trees es
 
-  pub texts_so : (trees : List Trees) × (es : List Entry) × LoadsBy options codes trees es × HoldsIt trees es
+  pub kept_so : (trees : List Trees) × (es : List Entry) × LoadsBy options codes trees es × HoldsIt trees es
       → ((trees : List Trees) (es : List Entry) → LoadsBy options codes trees es → HoldsIt trees es)
-      → LoadsTexts options codes x.0 x.1.items
-  texts_so (own, es, loads, has) one = (
+      → LoadsKept keeps s options codes x.0 x.1.items
+  kept_so (own, es, loads, has) one = (
     own,
     (
       own,

@@ -1,23 +1,26 @@
 -- Of a loaded set whose tables were told each table is printed by its text, which is that of the terms as which it reads.
 use Rattle.acpidis.proofs.Common.{◌≡◌, ℕ, suc, ◌+◌, ◌-◌, Bool, true, false, cond, List, [], ◌∷◌, Some, length, subst, refl, ap}
-use Rattle.acpidis.proofs.Common.{sym, ◌∙◌, Trees, Entry, ReadsModule, Dump, Options, IsSetBy, Table, TableSet, table_codes}
+use Rattle.acpidis.proofs.Common.{sym, ◌∙◌, Trees, Entry, ReadsModule, Dump, Options, Table, TableSet, table_codes}
 use Rattle.std.proofs.Common.{Option, None, ◌⊎◌, inl, inr}
-use Rattle.std.specs.Prelude.{is_some, option_map, unwrap_or}
+use Rattle.std.specs.Prelude.{IfSome, is_some, option_map, unwrap_or}
 use Rattle.std.specs.List.{list_all}
 use Rattle.aml_code.specs.Faults.{Arities, most_levels}
 use Rattle.aml_code.specs.Lawful.{ReadsStep, has_opcode, next_position}
 use Rattle.aml_code.specs.Opcodes.{Row, row_of}
+use Rattle.aml_code.specs.Pieces.{Told}
 use Rattle.aml_code.specs.Tree.{Tree, nothing, named, op, no_trees, tree_more, terms, bytes, elements, fields, body, empty}
 use Rattle.aml_code.specs.declared.rows.Position.{Position}
 use Rattle.aml_code.specs.declared.rows.Position.TheVariants as positions
 use Rattle.aml_code.specs.declared.rows.TailKind.{TailKind}
 use Rattle.aml_code.specs.declared.rows.TailKind.TheVariants as kinds
 use Rattle.aml_parse.specs.Running.{has_terms as with_terms, is_block as is_open}
+use Rattle.aml_load.specs.Kept.{AreKeptOf}
 use Rattle.aml_load.specs.Loading.{TablesLoad, TableLoads, TermsRead, TermReads, Where, counts_at}
 use Rattle.aml_text.specs.Told.{AreTold}
-use Rattle.asl_text.specs.Tables.{AreSteps, IsStep, StandsIn, has_terms, is_block}
+use Rattle.asl_text.specs.Tables.{AreSteps, IsMade, IsStep, StandsIn, has_terms, is_block}
 use Rattle.asl_text.specs.declared.tables.TableText.{TableText}
-use Rattle.acpidis.specs.Told.{AreTexts}
+use Rattle.asl_text.specs.declared.tables.TableTexts.{TableTexts}
+use Rattle.acpidis.specs.Told.{AreTexts, HasTexts, IsKeptSet}
 
 -- ---- a table whose code may run is read in steps
 abbrev IsRun : Position → Type 0
@@ -95,16 +98,31 @@ all_told any z last es fs n (t ∷ ts) (u ∷ us) (None ∷ xs) loads each made 
 all_told any z last es fs n (t ∷ ts) (u ∷ us) (Some x ∷ xs) (ms, one, others) each made =
     ((one_read any z last n es t.code.now u ms one, made.0), all_told any z last ms fs (suc n) ts us xs others each made.1)
 
+-- what is kept of the pieces of tables
+abbrev keeps : TableTexts → List ℕ → List Told → Option TableText → Type 0
+keeps s code ps text = IfSome text (IsMade ps)
+
+texts_kept : (s : TableTexts) (codes : List (List ℕ)) (trees : List Trees) (texts : List (Option TableText))
+    → AreKeptOf keeps s codes trees texts → AreTexts trees texts
+texts_kept s [] [] [] are = tt
+texts_kept s [] [] (x ∷ xs) are = absurd are
+texts_kept s [] (ts ∷ trees) xs are = absurd are
+texts_kept s (code ∷ codes) [] xs are = absurd are
+texts_kept s (code ∷ codes) (ts ∷ trees) [] are = absurd are
+texts_kept s (code ∷ codes) (ts ∷ trees) (x ∷ xs) are = (are.0, texts_kept s codes trees xs are.1)
+
 -- the same tables, as they are seen elsewhere
 seen_so : (any z : Bool) (last es fs : List Entry) (n : ℕ) (cs ds : List (List ℕ)) (trees us : List Trees) → ds ≡ cs → us ≡ trees
     → TablesLoad any z last n es cs trees fs → TablesLoad any z last n es ds us fs
 seen_so any z last es fs n cs ds trees us p q loads =
     subst (λ xs. TablesLoad any z last n es xs us fs) (sym p) (subst (λ ys. TablesLoad any z last n es cs ys fs) (sym q) loads)
 
-pub set_told : (dumps : List Dump) (options : Options) (x : TableSet) (trees : List Trees) (texts : List (Option TableText))
-    → IsSetBy dumps options x trees → list_all is_some texts ≡ true → AreTexts trees texts → AreTold x.tables.items texts trees
-set_told dumps options x trees texts from each made =
+pub set_told : (s : TableTexts) (dumps : List Dump) (options : Options) (x : TableSet) (texts : List (Option TableText))
+    → IsKeptSet keeps s dumps options x texts → list_all is_some texts ≡ true → HasTexts dumps options x texts
+set_told s dumps options x texts (trees, (from, kept)) each =
     let k = from.sound.0 in
     let has = from.sound.2.holds in
-    let read = seen_so _ _ _ _ _ _ _ _ _ _ has.tables has.trees from.sound.1.loads.read in
-    all_told _ _ _ _ _ _ x.tables.items trees texts read each made
+    let read = seen_so _ _ _ _ _ _ _ _ _ _ has.tables has.trees from.sound.1.loads.read in (
+      trees,
+      (from, all_told _ _ _ _ _ _ x.tables.items trees texts read each (texts_kept s (table_codes x.tables.items) trees texts kept)),
+    )

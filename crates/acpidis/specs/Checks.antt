@@ -1,10 +1,10 @@
 -- What `check` says of each loaded table: its length, its methods, its raw bodies, and whether what was read encodes
 -- to the same bytes again.
-use Rattle.std.specs.Prelude.{ℕ, suc, ◌==◌, nat_eq, Bool, true, false, ◌&&◌, List, [], ◌∷◌, ◌++◌, map, filter, zip}
+use Rattle.std.specs.Prelude.{ℕ, suc, nat_eq, Bool, true, false, ◌&&◌, List, [], ◌∷◌, ◌++◌, map, filter, zip}
 use Rattle.std.specs.Prelude.{flat_map, length, decimal, ◌≡◌, Result, Ok, Err, ◌+◌, ◌<◌, cond, All, is_err, Vec}
 use Rattle.std.specs.Global.{Global}
 use Rattle.std.specs.List.{list_all, list_any, count_by}
-use lib.Pointwise.{pointwise}
+use Rattle.aml_code.specs.Encoded.{same_bytes}
 use Rattle.aml_code.specs.Tree.{encodings, Trees}
 use Rattle.aml_load.specs.Loading.{methods_of}
 use Rattle.aml_set.specs.Methods.{Method, methods_in, span_of}
@@ -22,10 +22,6 @@ use Rattle.acpidis.specs.declared.checking.Checked.{Checked}
 use Rattle.acpidis.specs.declared.checking.Mark.{Mark}
 use Rattle.aml_names.specs.declared.faults.CodeFault.{CodeFault}
 use Rattle.aml_set.specs.declared.tables.TableSet.{TableSet}
-
--- two texts have the same bytes
-abbrev pub same_bytes : List ℕ → List ℕ → Bool
-same_bytes = pointwise ◌==◌
 
 -- the terms of a body encode to its bytes; a raw body is its bytes
 abbrev pub body_same : List ℕ → OneBody → Bool
@@ -145,6 +141,10 @@ tried_mark table (Err fault) = record { table = table; raw = true; same = true }
 
 abbrev pub tried_marks : List Kept → List (Result Bool CodeFault) → List Mark
 tried_marks ms ds = map (λ p. tried_mark p.0.table p.1) (zip ms ds)
+
+-- of a table by its AML and its terms, before its methods are counted
+abbrev pub first_check : List ℕ → Trees → Checked
+first_check code ts = uncounted (record { name = []; code = code; terms = ts })
 
 -- ---- A stepping stone of the proofs of `check`: the methods of tables, counted one after the other.
 

@@ -4,13 +4,13 @@ ghost use Rattle.acpidis.specs.Endings.{Ends};
 ghost use Rattle.acpidis.specs.Told.{HasTexts};
 
 use crate::bodies::keep_bodies_alone;
-use crate::disassembling::load_set;
+use crate::disassembling::load_names_set;
 use crate::faults::RunFault;
 use crate::options::Options;
 use crate::running::{print_listing, print_trials};
 use crate::texts::Texts;
 use crate::told::load_texts;
-use crate::trials::Trials;
+use crate::trials::{Trials, Tried};
 use acpi_tables::Dump;
 use aml_text::{Tables, body_levels};
 use std::alloc::Global;
@@ -76,8 +76,13 @@ fn checks_alone<O: Write, E: Write>(
 ) -> Result<u8, RunFault>
     ensures { Ends dumps.now options.now true (O.contents out.old) (O.contents out.new) result }
 {
-    let (_order, set) = load_set(alloc, dumps, options)?;
-    let tables = Tables::with_terms(dumps, &set);
-    let found = keep_bodies_alone(alloc, &set, options.unknown_zero, &Trials { alloc })?;
-    print_trials(alloc, tables, options, found.as_slice(), out, err)
+    let keep = Trials { alloc };
+    let (set, checks) = load_names_set(alloc, dumps, options, &keep)?;
+    let found = keep_bodies_alone(alloc, &set, options.unknown_zero, &keep)?;
+    let tried = Tried {
+        alloc,
+        tables: checks,
+        bodies: found.as_slice(),
+    };
+    print_trials(Tables::without_texts(dumps, &set), options, tried, out, err)
 }

@@ -1,5 +1,8 @@
 //! Whether what was read encodes to the same bytes again.
 ghost use Rattle.std.specs.Prelude.{◌≡◌, ◌≤◌, ◌<◌, All, IfOk, length, map, slice_set, slice_index_or};
+ghost use Rattle.aml_code.specs.Encoded.{same_bytes};
+ghost use Rattle.aml_code.specs.Tree.{encodings};
+ghost use Rattle.aml_code.specs.View.{nodes_view};
 ghost use Rattle.aml_set.specs.Code.{AreShort};
 ghost use Rattle.aml_set.specs.Views.{codes_view, body_of};
 ghost use Rattle.asl_text.specs.Bodies.{block_view};
@@ -7,11 +10,10 @@ ghost use Rattle.acpidis.specs.Bodies.{reading_of};
 ghost use Rattle.acpidis.specs.Checks.{checks_with, checks_of, Under, added, uncounted, tallied, tried_mark};
 ghost use Rattle.acpidis.specs.Checks.{tried_marks, AreKept, IsKept, IsSame};
 
-use crate::trials::{is_encoding, try_body};
-use aml_code::{CodeFault, NoMemory};
+use aml_code::{CodeFault, NoMemory, Node, encode_terms};
 use aml_set::Method;
 use aml_text::{Blocks, Listing};
-use asl_text::Block;
+use asl_text::{Block, Body};
 use std::alloc::Global;
 
 /// What `check` says of a loaded table.
@@ -57,6 +59,19 @@ impl Mark {
 }
 
 impl Checked {
+    /// What is said of a table of this AML before its methods are counted.
+    pub(crate) fn of_table(code: &[u8], same: bool) -> Checked
+        ensures { length code.now ≤ 16777216 →
+            result ≡ record { bytes = length code.now; methods = 0; raw = 0; same = same } }
+    {
+        Checked {
+            bytes: u32::try_from(code.len()).unwrap_or(u32::MAX),
+            methods: 0,
+            raw: 0,
+            same,
+        }
+    }
+
     /// The same with one method more.
     fn with_method(self, mark: Mark) -> Checked
         requires { (self.methods < 1048576) × (self.raw < 1048576) }
@@ -71,18 +86,21 @@ impl Checked {
     }
 }
 
+/// Whether terms encode to these bytes.
+fn is_encoding(alloc: Global, bytes: &[u8], nodes: &[Node]) -> Result<bool, NoMemory>
+    ensures { IfOk result (λ same. same ≡ same_bytes (encodings bytes.now (nodes_view nodes.now)) bytes.now) }
+{
+    let encoded = encode_terms(alloc, bytes, nodes)?;
+    Ok(encoded.as_slice() == bytes)
+}
+
 /// What is said of a table before its methods are counted.
 fn check_block(alloc: Global, block: &Block<'_>) -> Result<Checked, NoMemory>
     requires { length block.now.code.now ≤ 16777216 }
     ensures { IfOk result (λ checked. checked ≡ uncounted (block_view block.now)) }
 {
     let same = is_encoding(alloc, block.code, block.nodes)?;
-    Ok(Checked {
-        bytes: block.code.len() as u32,
-        methods: 0,
-        raw: 0,
-        same,
-    })
+    Ok(Checked::of_table(block.code, same))
 }
 
 /// What is said of the tables before their methods are counted.
@@ -110,7 +128,11 @@ fn count_method(all: &mut Vec<Checked>, mark: Mark)
 }
 
 /// Counts the methods of each table, by what was tried of their bodies.
-fn count_methods(methods: &[Method], tried: &[Result<bool, CodeFault>], all: &mut Vec<Checked>)
+pub(crate) fn count_methods(
+    methods: &[Method],
+    tried: &[Result<bool, CodeFault>],
+    all: &mut Vec<Checked>,
+)
     requires each { length tried.now ≡ length methods.now }
     requires few { length methods.now ≤ 1048576 }
     requires new { Under 1 all.old.items }
@@ -122,7 +144,7 @@ fn count_methods(methods: &[Method], tried: &[Result<bool, CodeFault>], all: &mu
 }
 
 /// What is said of the tables, by what was tried of the bodies of their methods.
-pub(crate) fn check_tables<T: Blocks>(
+fn check_tables<T: Blocks>(
     alloc: Global,
     tables: &T,
     methods: &[Method],
@@ -136,6 +158,16 @@ pub(crate) fn check_tables<T: Blocks>(
     let mut all = check_blocks(alloc, tables)?;
     count_methods(methods, tried, &mut all);
     Ok(all)
+}
+
+/// Whether a body's terms encode to its bytes. Of a raw body that is its fault.
+fn try_body(alloc: Global, bytes: &[u8], body: &Body) -> Result<Result<bool, CodeFault>, NoMemory>
+    ensures { IfOk result (IsKept (IsSame bytes.now) (reading_of body.now)) }
+{
+    match body {
+        Body::Tree(nodes) => Ok(Ok(is_encoding(alloc, bytes, nodes.as_slice())?)),
+        Body::Raw(fault) => Ok(Err(*fault)),
+    }
 }
 
 /// Tries the bodies of a listing.

@@ -10,7 +10,7 @@ ghost use Rattle.acpidis.specs.Bodies.{AreDrawn};
 ghost use Rattle.acpidis.specs.Meaning.{Meaning, LoadsBy, LoadsSet, IsSet, Means, Shows, Told, none_unknown};
 ghost use Rattle.aml_text.specs.Listing.{indexes_in};
 ghost use Rattle.acpidis.specs.Refusals.{IsWant, load_refusal, TellsTable, TellsLoad, TellsBlocks};
-ghost use Rattle.acpidis.specs.Told.{IsTextSet, LoadsTexts};
+ghost use Rattle.acpidis.specs.Told.{IsKeptSet, LoadsKept};
 
 use crate::bodies::read_bodies;
 use crate::crew::Crew;
@@ -18,10 +18,11 @@ use crate::options::Options;
 use crate::refusal::Refusal;
 use crate::tables::tables_of;
 use acpi_tables::{Bad, Dump, Order, TableFault, load_order};
+use aml_code::TableSink;
 use aml_load::{LoadFault, LoadRules, load_names, load_tables};
 use aml_pool::Gate;
 use aml_set::{Loaded, Table, TableSet};
-use aml_text::{Listing, TableText, TableTexts, dump_of};
+use aml_text::{Listing, dump_of};
 use std::alloc::Global;
 use std::sync::Wait;
 use std::thread::Threads;
@@ -142,15 +143,17 @@ pub fn load_set<'a>(
     Ok((order, set))
 }
 
-/// Loads tables by their AML, and keeps texts in place of their terms.
-fn load_names_in<'a>(
+/// Loads tables by their AML, and keeps of each what a sink keeps, in place of its terms.
+fn load_names_in<'a, S: TableSink>(
     alloc: Global,
     tables: Vec<Table<'a>>,
     options: &Options,
     order: &Order,
-) -> Result<(TableSet<'a>, Vec<Option<TableText>>), Refusal>
+    sink: &S,
+) -> Result<(TableSet<'a>, Vec<S::Kept>), Refusal>
     ensures dumps { IfOk result (λ x. table_dumps x.0.tables.items ≡ table_dumps tables.entry.items) }
-    ensures loads { IfOk result (λ x. LoadsTexts options.now (table_codes tables.entry.items) x.0 x.1.items) }
+    ensures loads { IfOk result (λ x.
+        LoadsKept S.keeps sink.now options.now (table_codes tables.entry.items) x.0 x.1.items) }
     ensures few { IfOk result (λ x. length x.0.methods.items ≤ 1048576) }
     ensures complete { IfErr result (λ e. IsWant e ⊎ ((trees : List Trees) (es : List Entry) →
         LoadsBy options.now (table_codes tables.entry.items) trees es → ⊥)) }
@@ -160,24 +163,25 @@ fn load_names_in<'a>(
         any_run: options.any_run,
         unknown_zero: none_unknown(options),
     };
-    match load_names(alloc, tables, rules, &TableTexts { alloc }) {
+    match load_names(alloc, tables, rules, sink) {
         Ok(loaded) => Ok(loaded),
         Err(fault) => Err(refused_load(order, fault)),
     }
 }
 
-/// What the tables of a set load to, and what is kept of their texts, in place of their terms. No body is read.
-pub(crate) fn load_names_set<'a>(
+/// What the tables of a set load to, and what a sink keeps of each, in place of its terms. No body is read.
+pub(crate) fn load_names_set<'a, S: TableSink>(
     alloc: Global,
     dumps: &'a [Dump],
     options: &Options,
-) -> Result<(TableSet<'a>, Vec<Option<TableText>>), Refusal>
-    ensures set { IfOk result (λ x. IsTextSet dumps.now options.now x.0 x.1.items) }
+    sink: &S,
+) -> Result<(TableSet<'a>, Vec<S::Kept>), Refusal>
+    ensures set { IfOk result (λ x. IsKeptSet S.keeps sink.now dumps.now options.now x.0 x.1.items) }
     ensures complete { IfErr result (λ e. IsWant e ⊎ ((k : Meaning) → ¬ LoadsSet dumps.now options.now k)) }
 {
     let order = order_in(alloc, dumps, options.any_sum)?;
     let tables = tables_of(alloc, dumps, &order)?;
-    let loaded = match load_names_in(alloc, tables, options, &order) {
+    let loaded = match load_names_in(alloc, tables, options, &order, sink) {
         Ok(loaded) => loaded,
         Err(refusal) => return Err(refusal),
     };

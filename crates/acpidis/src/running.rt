@@ -5,21 +5,20 @@ ghost use Rattle.acpidis.specs.Endings.{Lists, IsCut, Ends, status_of};
 ghost use Rattle.aml_set.specs.Views.{body_in_set};
 ghost use Rattle.asl_text.specs.Bodies.{IsText};
 ghost use Rattle.aml_text.specs.Told.{levels_kept};
-ghost use Rattle.acpidis.specs.Told.{HasTexts};
+ghost use Rattle.acpidis.specs.Told.{HasTexts, IsTriedSet};
 ghost use Rattle.acpidis.specs.Checks.{AreKeptOf, IsKept, IsSame, has_fault};
-ghost use Rattle.acpidis.specs.Meaning.{IsSet};
 
 use crate::bodies::keep_bodies;
 use crate::check_lines::{are_same, write_tables};
-use crate::checking::check_tables;
+use crate::checking::count_methods;
 use crate::crew::Crew;
-use crate::disassembling::load_set;
+use crate::disassembling::load_names_set;
 use crate::faults::RunFault;
 use crate::options::Options;
 use crate::refusal::Refusal;
 use crate::texts::Texts;
 use crate::told::load_texts;
-use crate::trials::Trials;
+use crate::trials::{Trials, Tried};
 use acpi_folder::Quoted;
 use acpi_tables::Dump;
 use aml_code::{CodeFault, NoMemory};
@@ -168,7 +167,7 @@ pub(crate) fn print_listing<O: Write, E: Write>(
 }
 
 /// Loads the tables of these dumps, and writes a line for each, and a line on `err` for each body that can't be read.
-/// Each body is read and tried by a worker, which lets its terms go. Answers the status.
+/// Tables and bodies are tried as they are told, the bodies by workers, and no terms are made. Answers the status.
 fn run_checks<R: Threads + Wait + Sync, G: Gate + Sync, O: Write, E: Write>(
     crew: &Crew<'_, R, G>,
     dumps: &[Dump],
@@ -179,17 +178,15 @@ fn run_checks<R: Threads + Wait + Sync, G: Gate + Sync, O: Write, E: Write>(
     requires workers { (1 ≤ crew.now.workers) × (crew.now.workers ≤ 64) }
     ensures { Ends dumps.now options.now true (O.contents out.old) (O.contents out.new) result }
 {
-    let (_order, set) = load_set(crew.alloc, dumps, options)?;
     let keep = Trials { alloc: crew.alloc };
+    let (set, checks) = load_names_set(crew.alloc, dumps, options, &keep)?;
     let found = keep_bodies(crew, &set, options.unknown_zero, &keep)?;
-    let ended = print_trials(
-        crew.alloc,
-        Tables::with_terms(dumps, &set),
-        options,
-        found.items.as_slice(),
-        out,
-        err,
-    );
+    let tried = Tried {
+        alloc: crew.alloc,
+        tables: checks,
+        bodies: found.items.as_slice(),
+    };
+    let ended = print_trials(Tables::without_texts(dumps, &set), options, tried, out, err);
     forget((set, found));
     ended
 }
@@ -197,29 +194,32 @@ fn run_checks<R: Threads + Wait + Sync, G: Gate + Sync, O: Write, E: Write>(
 /// Writes a line for each table of a loaded set whose bodies were tried so, and a line on `err` for each that can't be
 /// read. Answers the status.
 pub(crate) fn print_trials<O: Write, E: Write>(
-    alloc: Global,
     tables: Tables<'_, '_>,
     options: &Options,
-    tried: &[Result<bool, CodeFault>],
+    tried: Tried<'_>,
     out: &mut O,
     err: &mut E,
 ) -> Result<u8, RunFault>
-    requires set { IsSet tables.dumps.now options.now tables.set.now }
-    requires each { length tried.now ≡ length tables.set.now.methods.items }
+    requires set { IsTriedSet tables.dumps.now options.now tables.set.now tried.tables.items }
+    requires each { length tried.bodies.now ≡ length tables.set.now.methods.items }
     requires kept { AreKeptOf (λ n. IsKept (IsSame (body_in_set tables.set.now n))) options.now.unknown_zero
-        tables.set.now tried.now }
+        tables.set.now tried.bodies.now }
     ensures { Ends tables.entry.dumps.now options.now true (O.contents out.old) (O.contents out.new) result }
 {
     let _ = options;
-    let methods = tables.set.methods.as_slice();
-    let checks = check_tables(alloc, &tables, methods, tried)?;
-    let room = room_for_paths(alloc, tables.set, tried)?;
+    let Tried {
+        alloc,
+        tables: mut checks,
+        bodies,
+    } = tried;
+    count_methods(tables.set.methods.as_slice(), bodies, &mut checks);
+    let room = room_for_paths(alloc, tables.set, bodies)?;
     write_tables(out, &tables, checks.as_slice())?;
     if !are_same(checks.as_slice()) {
         return Err(RunFault::Differs);
     }
-    print_raw_bodies(tables.set, tried, room, err);
-    Ok(status_of_bodies(tried))
+    print_raw_bodies(tables.set, bodies, room, err);
+    Ok(status_of_bodies(bodies))
 }
 
 /// Whether one of these bodies can't be read.

@@ -10,7 +10,7 @@ use crate::options::Options;
 use crate::refusal::Refusal;
 use acpi_tables::Dump;
 use aml_set::TableSet;
-use aml_text::TableText;
+use aml_text::{TableText, TableTexts};
 use std::alloc::Global;
 
 /// What the tables of a set load to, and the text of each; or else the terms of each, where one of the texts would take
@@ -46,7 +46,7 @@ fn load_whole_texts<'a>(
     ensures set { IfOk result (λ found. IfSome found (λ x. HasTexts dumps.now options.now x.0 x.1.items)) }
     ensures complete { IfErr result (λ e. IsWant e ⊎ ((k : Meaning) → ¬ LoadsSet dumps.now options.now k)) }
 {
-    let (set, texts) = load_names_set(alloc, dumps, options)?;
+    let (set, texts) = load_names_set(alloc, dumps, options, &TableTexts { alloc })?;
     if !has_all(texts.as_slice()) {
         return Ok(None);
     }

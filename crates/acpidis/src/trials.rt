@@ -1,42 +1,43 @@
-//! Whether the terms of bodies encode to their bytes again: a worker tries each body, and lets its terms go.
-ghost use Rattle.std.specs.Prelude.{◌≡◌, IfOk};
-ghost use Rattle.aml_code.specs.View.{nodes_view};
-ghost use Rattle.aml_code.specs.Tree.{encodings};
-ghost use Rattle.acpidis.specs.Bodies.{reading_of};
-ghost use Rattle.acpidis.specs.Checks.{same_bytes, IsKept, IsSame};
+//! Whether the terms of tables and of bodies encode to their bytes again: as they are told, so that no terms are made.
+ghost use Rattle.std.specs.Prelude.{◌≡◌, ◌≤◌, ℕ, length};
+ghost use Rattle.aml_code.specs.Pieces.{line_pieces};
+ghost use Rattle.aml_code.specs.Tree.{Trees};
+ghost use Rattle.acpidis.specs.Checks.{IsKept, IsSame, first_check};
 
 use crate::bodies::{Keep, Unread};
-use aml_code::{CodeFault, Node, encode_terms};
+use crate::checking::Checked;
+use crate::texts::AtLevel;
+use aml_code::{CodeFault, TableSink, Telling, told_same};
 use aml_pool::NoMemory;
-use asl_text::Body;
-use std::alloc::{AllocError, Global};
+use std::alloc::Global;
 
-/// Whether terms encode to these bytes.
-pub(crate) fn is_encoding(alloc: Global, bytes: &[u8], nodes: &[Node]) -> Result<bool, AllocError>
-    ensures { IfOk result (λ same. same ≡ same_bytes (encodings bytes.now (nodes_view nodes.now)) bytes.now) }
-{
-    let encoded = encode_terms(alloc, bytes, nodes)?;
-    Ok(encoded.as_slice() == bytes)
-}
-
-/// Whether a body's terms encode to its bytes. Of a raw body that is its fault.
-pub(crate) fn try_body(
-    alloc: Global,
-    bytes: &[u8],
-    body: &Body,
-) -> Result<Result<bool, CodeFault>, AllocError>
-    ensures { IfOk result (IsKept (IsSame bytes.now) (reading_of body.now)) }
-{
-    match body {
-        Body::Tree(nodes) => Ok(Ok(is_encoding(alloc, bytes, nodes.as_slice())?)),
-        Body::Raw(fault) => Ok(Err(*fault)),
-    }
-}
-
-/// Of each body is kept whether its terms encode to its bytes, or its fault.
+/// Of each table is kept what is said of it before its methods are counted, and of each body whether its terms encode
+/// to its bytes, or its fault.
 #[derive(Clone, Copy)]
 pub(crate) struct Trials {
     pub(crate) alloc: Global,
+}
+
+/// What was tried of a loaded set.
+#[derive(Drop)]
+pub(crate) struct Tried<'t> {
+    pub(crate) alloc: Global,
+    /// What is said of each table before its methods are counted.
+    pub(crate) tables: Vec<Checked>,
+    /// What was tried of each body.
+    pub(crate) bodies: &'t [Result<bool, CodeFault>],
+}
+
+impl TableSink for Trials {
+    type Kept = Checked;
+
+    ghost keeps = { λ _ code ps checked. length code ≤ 16777216 → (level : ℕ) (ts : Trees) →
+        ps ≡ line_pieces level ts → checked ≡ first_check code ts };
+
+    fn take<T: Telling>(&self, code: &[u8], telling: T) -> Result<(T::Made, Checked), T::Fault> {
+        let (made, same) = told_same(self.alloc, code, telling)?;
+        Ok((made, Checked::of_table(code, same)))
+    }
 }
 
 impl Keep for Trials {
@@ -45,8 +46,11 @@ impl Keep for Trials {
     ghost keeps = { λ w n bytes reading kept. IsKept (IsSame bytes) reading kept };
 
     fn keep(&self, unread: &Unread<'_, '_>) -> Result<Self::Kept, NoMemory> {
-        let body = unread.read()?;
-        let same = try_body(self.alloc, unread.bytes, &body)?;
-        Ok(same)
+        let told = AtLevel { unread, level: 0 };
+        match told_same(self.alloc, unread.bytes, told) {
+            Ok((_, same)) => Ok(Ok(same)),
+            Err(CodeFault::NoMemory) => Err(NoMemory),
+            Err(fault) => Ok(Err(fault)),
+        }
     }
 }

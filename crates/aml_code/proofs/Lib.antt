@@ -8,4 +8,5 @@ pub mod Answered
 pub mod ElseLaws
 pub mod LevelLaws
 mod Encodes
+pub mod EncodedLaws
 mod RowIndex

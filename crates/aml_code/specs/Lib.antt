@@ -5,4 +5,5 @@ pub mod Tree
 pub mod Faults
 pub mod Lawful
 pub mod Pieces
+pub mod Encoded
 pub mod Laws

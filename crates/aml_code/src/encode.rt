@@ -12,19 +12,19 @@ use crate::tree::{Field, Link, Node, Part, Tail};
 use aml_names::{Name, NameForm, NoMemory, Seg};
 use std::alloc::Global;
 
-fn push_little2(n: u16, out: &mut Vec<u8>) -> Result<(), NoMemory>
+pub(crate) fn push_little2(n: u16, out: &mut Vec<u8>) -> Result<(), NoMemory>
     ensures { OnOk result (out.new.items ≡ out.old.items ++ little 2 n) }
 {
     out.extend_from_slice(&n.to_le_bytes())
 }
 
-fn push_little4(n: u32, out: &mut Vec<u8>) -> Result<(), NoMemory>
+pub(crate) fn push_little4(n: u32, out: &mut Vec<u8>) -> Result<(), NoMemory>
     ensures { OnOk result (out.new.items ≡ out.old.items ++ little 4 n) }
 {
     out.extend_from_slice(&n.to_le_bytes())
 }
 
-fn push_little8(n: u64, out: &mut Vec<u8>) -> Result<(), NoMemory>
+pub(crate) fn push_little8(n: u64, out: &mut Vec<u8>) -> Result<(), NoMemory>
     ensures { OnOk result (out.new.items ≡ out.old.items ++ little 8 n) }
 {
     out.extend_from_slice(&n.to_le_bytes())
@@ -61,7 +61,7 @@ fn push_length(width: PkgWidth, n: usize, out: &mut Vec<u8>) -> Result<(), NoMem
 }
 
 /// Leaves room for a package length at the end, and says where.
-fn open_package(width: PkgWidth, out: &mut Vec<u8>) -> Result<usize, NoMemory>
+pub(crate) fn open_package(width: PkgWidth, out: &mut Vec<u8>) -> Result<usize, NoMemory>
     ensures room { OnOk result (out.new.items ≡ out.old.items ++ replicate (width_len width) 0) }
     ensures at { IfOk result (λ at. at ≡ length out.old.items) }
 {
@@ -71,7 +71,7 @@ fn open_package(width: PkgWidth, out: &mut Vec<u8>) -> Result<usize, NoMemory>
 }
 
 /// Writes the package length into the room that was left for it at `at`: it covers all that stands from there on.
-fn close_package(width: PkgWidth, at: usize, out: &mut Vec<u8>)
+pub(crate) fn close_package(width: PkgWidth, at: usize, out: &mut Vec<u8>)
     requires { at + width_len width ≤ length out.old.items }
     ensures { out.new.items ≡ take at out.old.items ++
         (package_bytes width (length out.old.items - at) ++ drop (at + width_len width) out.old.items) }
@@ -105,7 +105,7 @@ fn encode_form(form: NameForm, count: usize, out: &mut Vec<u8>) -> Result<(), No
     Ok(())
 }
 
-fn encode_name(name: &Name, out: &mut Vec<u8>) -> Result<(), NoMemory>
+pub(crate) fn encode_name(name: &Name, out: &mut Vec<u8>) -> Result<(), NoMemory>
     ensures { OnOk result (out.new.items ≡ out.old.items ++ spelling name.now) }
 {
     if name.root {
@@ -116,7 +116,7 @@ fn encode_name(name: &Name, out: &mut Vec<u8>) -> Result<(), NoMemory>
     encode_segs(name.segs.as_slice(), out)
 }
 
-fn encode_opcode(opcode: u16, out: &mut Vec<u8>) -> Result<(), NoMemory>
+pub(crate) fn encode_opcode(opcode: u16, out: &mut Vec<u8>) -> Result<(), NoMemory>
     ensures { OnOk result (out.new.items ≡ out.old.items ++ opcode_bytes opcode) }
 {
     if opcode >= 256 {
@@ -240,7 +240,7 @@ fn encode_fields(code: &[u8], fields: &[Field], out: &mut Vec<u8>) -> Result<(),
 }
 
 #[cycle(encode)]
-fn encode_field(code: &[u8], field: &Field, out: &mut Vec<u8>) -> Result<(), NoMemory>
+pub(crate) fn encode_field(code: &[u8], field: &Field, out: &mut Vec<u8>) -> Result<(), NoMemory>
     ensures { OnOk result (out.new.items ≡ out.old.items ++ field_encoding code.now (field_view field.now)) }
 {
     match field {

@@ -6,6 +6,7 @@
 mod accessors;
 mod bytes;
 mod encode;
+mod encoder;
 mod packages;
 mod pieces;
 mod rows;
@@ -19,6 +20,7 @@ pub use aml_names::{
 };
 pub use bytes::Bytes;
 pub use encode::{encode_terms, slice};
+pub use encoder::told_same;
 pub use packages::{PkgWidth, length_of, little_of, read_pkg, span_of};
 pub use pieces::{Both, Piece, Sink, TableSink, Telling};
 pub use rows::{Group, Object, OpRow, PartKind, Place, Position, Role, TailKind, takes};

@@ -133,18 +133,19 @@ pub trait Telling {
 
 /// Who is told tables, one after the other, and keeps something of each.
 pub trait TableSink {
-    ghost use Rattle.std.specs.Prelude.{List, IfOk, IfErr};
+    ghost use Rattle.std.specs.Prelude.{ℕ, List, IfOk, IfErr};
     ghost use Rattle.aml_code.specs.Pieces.{Told};
 
     type Kept: Drop;
 
-    /// That this is kept of a table of these pieces.
-    ghost keeps: { Self → List Told → Self.Kept → Type 0 };
+    /// That this is kept of a table of this AML and these pieces.
+    ghost keeps: { Self → List ℕ → List Told → Self.Kept → Type 0 };
 
-    /// Has a table of so many bytes of AML told. Gives what was made of it besides, and what is kept, or the fault for
-    /// which nothing is told.
-    fn take<T: Telling>(&self, bytes: usize, telling: T) -> Result<(T::Made, Self::Kept), T::Fault>
+    /// Has a table of this AML told. Gives what was made of it besides, and what is kept, or the fault for which
+    /// nothing is told.
+    fn take<T: Telling>(&self, code: &[u8], telling: T) -> Result<(T::Made, Self::Kept), T::Fault>
         requires { T.can_tell telling }
-        ensures kept { IfOk result (λ x. (ps : List Told) × (T.tells telling x.0 ps × keeps self.now ps x.1)) }
+        ensures kept { IfOk result (λ x. (ps : List Told) ×
+            (T.tells telling x.0 ps × keeps self.now code.now ps x.1)) }
         ensures fails { IfErr result (T.fails telling) };
 }

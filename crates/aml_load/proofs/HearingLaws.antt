@@ -1,5 +1,5 @@
 -- What pieces declare is what their terms declare.
-use Rattle.std.proofs.Common.{◌≡◌, ℕ, Bool, true, false, cond, List, [], ◌∷◌, ◌++◌, Option, Some, None, option_map}
+use Rattle.std.proofs.Common.{◌≡◌, ℕ, Bool, true, false, cond, List, [], ◌∷◌, ◌++◌, ◌&&◌, Option, Some, None, option_map}
 use Rattle.std.proofs.Common.{Result, Ok, Err, refl, sym, ap, ◌∙◌, drop, unwrap_or}
 use Rattle.std.proofs.lemmas.List.{append-nil}
 use Rattle.std.proofs.Common.{append_assoc}
@@ -32,54 +32,67 @@ use Rattle.aml_load.specs.declared.faults.LoadFault.{LoadFault}
 use Rattle.aml_load.specs.Declaring.{◌>>=◌, Listed, Use, use_of, uses_in, all_uses, parts_uses, part_uses, tail_uses}
 use Rattle.aml_load.specs.Declaring.{fields_uses, field_uses, kinds_in, is_argument}
 use Rattle.aml_load.specs.Hearing.{Head, Around, Heard, asks, asks_of, inside, passed, top, all_passed}
-use Rattle.aml_load.specs.Hearing.{behind_term, left, opening, with_more, asked, opened_by, hear, hear_all}
+use Rattle.aml_load.specs.Hearing.{behind_term, catch, catch_all, closed, closed_by, left, opening, with_more, named_by, opened_by, hear, hear_all}
+use Rattle.aml_load.specs.declared.ears.Shape.{Shape}
+use Rattle.aml_load.specs.declared.ears.Shape.TheVariants as shapes
 use Rattle.aml_load.specs.Hearing as around
 use Rattle.aml_load.specs.HearerLaws.{after}
+use Rattle.aml_code.specs.Pieces as told
+use Rattle.aml_code.specs.declared.packages.PkgWidth.{PkgWidth}
+use Rattle.aml_code.specs.declared.rows.TailKind.{TailKind}
+use Rattle.aml_load.specs.Declaring.{term_uses}
+unfoldable use Rattle.aml_load.specs.Front.{enters_as, enters_by, head_enters}
+use Rattle.aml_load.specs.Opening.{tail_of}
+unfoldable use Rattle.aml_load.specs.Running.{entered_at}
+use Rattle.aml_load.specs.Running.{Front, object_at, scope_at}
+use Rattle.aml_load.specs.Running as run
+use Rattle.aml_load.specs.Runner.{span_inside}
+use Rattle.aml_parse.specs.Running.{has_terms}
 
 -- ---- pieces one after the other
 
 -- pieces that are heard, and others
-heard_on : (ps qs : List Told) (x y : Heard) → hear_all ps x ≡ Ok y → hear_all (ps ++ qs) x ≡ hear_all qs y
-heard_on ps qs x y e = after ps qs x ∙ ap (λ (r : Result Heard LoadFault). r >>= λ y. hear_all qs y) e
+heard_on : (does : Bool) (ps qs : List Told) (x y : Heard) → hear_all does ps x ≡ Ok y → hear_all does (ps ++ qs) x ≡ hear_all does qs y
+heard_on does ps qs x y e = after does ps qs x ∙ ap (λ (r : Result Heard LoadFault). r >>= λ y. hear_all does qs y) e
 
 abbrev heard : Listed → Option Head → List Around → Heard
 heard l h outer = record { listed = l; term = h; around = outer }
 
 -- ---- what is nowhere declares nothing and asks nothing
 
-module _ (l : Listed) (h : Option Head) where
+module _ (does : Bool) (l : Listed) (h : Option Head) where
   abbrev still : List Around → Heard
   still outer = heard l h (around.nowhere ∷ outer)
 
   mutual
-    nothing_heard : (level : ℕ) (t : Tree) (outer : List Around) → hear_all (pieces level t) (still outer) ≡ Ok (still outer)
+    nothing_heard : (level : ℕ) (t : Tree) (outer : List Around) → hear_all does (pieces level t) (still outer) ≡ Ok (still outer)
     nothing_heard level nothing outer = by h
       where
-        by : (h : Option Head) → hear_all (pieces level nothing) (heard l h (around.nowhere ∷ outer)) ≡ Ok (heard l h (around.nowhere ∷ outer))
+        by : (h : Option Head) → hear_all does (pieces level nothing) (heard l h (around.nowhere ∷ outer)) ≡ Ok (heard l h (around.nowhere ∷ outer))
         by None = refl
         by (Some x) = refl
-    nothing_heard level (named n ts) outer = by h (heard_on (items level ts) (end_of_call (tree_count ts) ∷ []) (still (around.nowhere ∷ outer)) (still (around.nowhere ∷ outer)) (items_nowhere level ts (around.nowhere ∷ outer)))
+    nothing_heard level (named n ts) outer = by h (heard_on does (items level ts) (end_of_call (tree_count ts) ∷ []) (still (around.nowhere ∷ outer)) (still (around.nowhere ∷ outer)) (items_nowhere level ts (around.nowhere ∷ outer)))
       where
-        by : (h : Option Head) → hear_all (items level ts ++ end_of_call (tree_count ts) ∷ []) (heard l h (around.nowhere ∷ around.nowhere ∷ outer))
+        by : (h : Option Head) → hear_all does (items level ts ++ end_of_call (tree_count ts) ∷ []) (heard l h (around.nowhere ∷ around.nowhere ∷ outer))
             ≡ Ok (heard l h (around.nowhere ∷ outer))
-            → hear_all (pieces level (named n ts)) (heard l h (around.nowhere ∷ outer)) ≡ Ok (heard l h (around.nowhere ∷ outer))
+            → hear_all does (pieces level (named n ts)) (heard l h (around.nowhere ∷ outer)) ≡ Ok (heard l h (around.nowhere ∷ outer))
         by None e = e
         by (Some x) e = e
     nothing_heard level (op o w ps t) outer =
-        heard_on (parts_pieces level ps) (end_of_parts (row_of o) (part_count ps) ∷ tail_pieces level t) (still (around.nowhere ∷ outer)) (still (around.nowhere ∷ outer)) (parts_nowhere level ps (around.nowhere ∷ outer))
+        heard_on does (parts_pieces level ps) (end_of_parts (row_of o) (part_count ps) ∷ tail_pieces level t) (still (around.nowhere ∷ outer)) (still (around.nowhere ∷ outer)) (parts_nowhere level ps (around.nowhere ∷ outer))
         ∙ tail_nowhere level t (around.nowhere ∷ outer)
 
-    items_nowhere : (level : ℕ) (ts : Trees) (outer : List Around) → hear_all (items level ts) (still outer) ≡ Ok (still outer)
+    items_nowhere : (level : ℕ) (ts : Trees) (outer : List Around) → hear_all does (items level ts) (still outer) ≡ Ok (still outer)
     items_nowhere level no_trees outer = refl
     items_nowhere level (tree_more t ts) outer =
-        heard_on (pieces level t) (more_items level ts) (still outer) (still outer) (nothing_heard level t outer) ∙ more_nowhere level ts outer
+        heard_on does (pieces level t) (more_items level ts) (still outer) (still outer) (nothing_heard level t outer) ∙ more_nowhere level ts outer
 
-    more_nowhere : (level : ℕ) (ts : Trees) (outer : List Around) → hear_all (more_items level ts) (still outer) ≡ Ok (still outer)
+    more_nowhere : (level : ℕ) (ts : Trees) (outer : List Around) → hear_all does (more_items level ts) (still outer) ≡ Ok (still outer)
     more_nowhere level no_trees outer = refl
     more_nowhere level (tree_more t ts) outer =
-        heard_on (pieces level t) (more_items level ts) (still outer) (still outer) (nothing_heard level t outer) ∙ more_nowhere level ts outer
+        heard_on does (pieces level t) (more_items level ts) (still outer) (still outer) (nothing_heard level t outer) ∙ more_nowhere level ts outer
 
-    part_nowhere : (level : ℕ) (p : Part) (outer : List Around) → hear_all (part_pieces level p) (still outer) ≡ Ok (still outer)
+    part_nowhere : (level : ℕ) (p : Part) (outer : List Around) → hear_all does (part_pieces level p) (still outer) ≡ Ok (still outer)
     part_nowhere level (child t) outer = nothing_heard level t outer
     part_nowhere level (label n) outer = refl
     part_nowhere level (byte b) outer = refl
@@ -88,54 +101,54 @@ module _ (l : Listed) (h : Option Head) where
     part_nowhere level (qword b) outer = refl
     part_nowhere level (text s) outer = refl
 
-    parts_nowhere : (level : ℕ) (ps : Parts) (outer : List Around) → hear_all (parts_pieces level ps) (still outer) ≡ Ok (still outer)
+    parts_nowhere : (level : ℕ) (ps : Parts) (outer : List Around) → hear_all does (parts_pieces level ps) (still outer) ≡ Ok (still outer)
     parts_nowhere level no_parts outer = refl
     parts_nowhere level (part_more p ps) outer =
-        heard_on (part_pieces level p) (more_parts level ps) (still outer) (still outer) (part_nowhere level p outer) ∙ rest_nowhere level ps outer
+        heard_on does (part_pieces level p) (more_parts level ps) (still outer) (still outer) (part_nowhere level p outer) ∙ rest_nowhere level ps outer
 
-    rest_nowhere : (level : ℕ) (ps : Parts) (outer : List Around) → hear_all (more_parts level ps) (still outer) ≡ Ok (still outer)
+    rest_nowhere : (level : ℕ) (ps : Parts) (outer : List Around) → hear_all does (more_parts level ps) (still outer) ≡ Ok (still outer)
     rest_nowhere level no_parts outer = refl
     rest_nowhere level (part_more p ps) outer =
-        heard_on (part_pieces level p) (more_parts level ps) (still outer) (still outer) (part_nowhere level p outer) ∙ rest_nowhere level ps outer
+        heard_on does (part_pieces level p) (more_parts level ps) (still outer) (still outer) (part_nowhere level p outer) ∙ rest_nowhere level ps outer
 
     -- behind the tail what was opened is left
     tail_nowhere : (level : ℕ) (t : Tail) (outer : List Around)
-        → hear_all (tail_pieces level t) (still outer) ≡ Ok (behind_term (heard l h outer))
+        → hear_all does (tail_pieces level t) (still outer) ≡ Ok (behind_term (heard l h outer))
     tail_nowhere level empty outer = refl
     tail_nowhere level (bytes xs) outer = refl
     tail_nowhere level (body start len) outer = refl
     tail_nowhere level (terms ts) outer =
         let x = still (around.nowhere ∷ outer) in
-        heard_on (line_pieces (deeper level) ts) (end_of_list tails.Terms level ∷ []) x x (lines_nowhere (deeper level) ts (around.nowhere ∷ outer))
+        heard_on does (line_pieces (deeper level) ts) (end_of_list tails.Terms level ∷ []) x x (lines_nowhere (deeper level) ts (around.nowhere ∷ outer))
     tail_nowhere level (elements ts) outer =
         let x = still (around.nowhere ∷ outer) in
-        heard_on (items level ts) (end_of_list tails.Elements level ∷ []) x x (items_nowhere level ts (around.nowhere ∷ outer))
+        heard_on does (items level ts) (end_of_list tails.Elements level ∷ []) x x (items_nowhere level ts (around.nowhere ∷ outer))
     tail_nowhere level (fields us) outer =
         let x = still (around.nowhere ∷ outer) in
-        heard_on (fields_pieces (deeper level) us) (end_of_list tails.Fields level ∷ []) x x (fields_nowhere (deeper level) us (around.nowhere ∷ outer))
+        heard_on does (fields_pieces (deeper level) us) (end_of_list tails.Fields level ∷ []) x x (fields_nowhere (deeper level) us (around.nowhere ∷ outer))
 
-    lines_nowhere : (level : ℕ) (ts : Trees) (outer : List Around) → hear_all (line_pieces level ts) (still outer) ≡ Ok (still outer)
+    lines_nowhere : (level : ℕ) (ts : Trees) (outer : List Around) → hear_all does (line_pieces level ts) (still outer) ≡ Ok (still outer)
     lines_nowhere level no_trees outer = refl
     lines_nowhere level (tree_more t ts) outer =
-        heard_on (pieces level t) (end_of_line ∷ line_pieces level ts) (still outer) (still outer) (nothing_heard level t outer) ∙ lines_nowhere level ts outer
+        heard_on does (pieces level t) (end_of_line ∷ line_pieces level ts) (still outer) (still outer) (nothing_heard level t outer) ∙ lines_nowhere level ts outer
 
-    fields_nowhere : (level : ℕ) (us : Fields) (outer : List Around) → hear_all (fields_pieces level us) (still outer) ≡ Ok (still outer)
+    fields_nowhere : (level : ℕ) (us : Fields) (outer : List Around) → hear_all does (fields_pieces level us) (still outer) ≡ Ok (still outer)
     fields_nowhere level no_fields outer = refl
     fields_nowhere level (field_more u us) outer =
-        heard_on (field_pieces level u) (end_of_line ∷ fields_pieces level us) (still outer) (still outer) (field_nowhere level u outer) ∙ fields_nowhere level us outer
+        heard_on does (field_pieces level u) (end_of_line ∷ fields_pieces level us) (still outer) (still outer) (field_nowhere level u outer) ∙ fields_nowhere level us outer
 
-    field_nowhere : (level : ℕ) (u : Field) (outer : List Around) → hear_all (field_pieces level u) (still outer) ≡ Ok (still outer)
+    field_nowhere : (level : ℕ) (u : Field) (outer : List Around) → hear_all does (field_pieces level u) (still outer) ≡ Ok (still outer)
     field_nowhere level (unit s w n) outer = refl
     field_nowhere level (reserved w n) outer = refl
     field_nowhere level (access a b) outer = refl
     field_nowhere level (extended a b c) outer = refl
     field_nowhere level (connection (target n)) outer = refl
     field_nowhere level (connection (buffer t)) outer =
-        heard_on (pieces level t) (end_of_link ∷ []) (still outer) (still outer) (nothing_heard level t outer)
+        heard_on does (pieces level t) (end_of_link ∷ []) (still outer) (still outer) (nothing_heard level t outer)
 
 -- ---- names more
 
-more_none : (l : Listed) → with_more l [] ≡ l
+pub more_none : (l : Listed) → with_more l [] ≡ l
 more_none l = λ i. record { entries = l.entries; uses = append-nil l.uses i }
 
 more_more : (l : Listed) (us vs : List Use) → with_more (with_more l us) vs ≡ with_more l (us ++ vs)
@@ -144,30 +157,30 @@ more_more l us vs = λ i. record { entries = l.entries; uses = append_assoc l.us
 -- ---- where names aren't asked
 
 -- what stands there is passed over
-unasked : (l : Listed) (h : Option Head) (b : Around) (outer : List Around)
-    → ((n : Name) (count : ℕ) → hear (name n count) (heard l h (b ∷ outer)) ≡ Ok (heard l h (around.nowhere ∷ b ∷ outer)))
+unasked : (does : Bool) (l : Listed) (h : Option Head) (b : Around) (outer : List Around)
+    → ((n : Name) (count : ℕ) → hear does (name n count) (heard l h (b ∷ outer)) ≡ Ok (heard l h (around.nowhere ∷ b ∷ outer)))
     → ((o : ℕ) (row : Option Row) → opened_by b o row (heard l h (b ∷ outer)) ≡ heard l h (around.nowhere ∷ b ∷ outer))
-    → (level : ℕ) (t : Tree) → hear_all (pieces level t) (heard l h (b ∷ outer)) ≡ Ok (behind_term (heard l h (b ∷ outer)))
-unasked l h b outer of_name of_row level nothing = refl
-unasked l h b outer of_name of_row level (named n ts) =
+    → (level : ℕ) (t : Tree) → hear_all does (pieces level t) (heard l h (b ∷ outer)) ≡ Ok (behind_term (heard l h (b ∷ outer)))
+unasked does l h b outer of_name of_row level nothing = refl
+unasked does l h b outer of_name of_row level (named n ts) =
     let x = heard l h (around.nowhere ∷ b ∷ outer) in
     let rest = items level ts ++ end_of_call (tree_count ts) ∷ [] in
-    ap (λ (r : Result Heard LoadFault). r >>= λ y. hear_all rest y) (of_name n (tree_count ts))
-    ∙ heard_on (items level ts) (end_of_call (tree_count ts) ∷ []) x x (items_nowhere l h level ts (b ∷ outer))
-unasked l h b outer of_name of_row level (op o w ps t) =
+    ap (λ (r : Result Heard LoadFault). r >>= λ y. hear_all does rest y) (of_name n (tree_count ts))
+    ∙ heard_on does (items level ts) (end_of_call (tree_count ts) ∷ []) x x (items_nowhere does l h level ts (b ∷ outer))
+unasked does l h b outer of_name of_row level (op o w ps t) =
     let x = heard l h (around.nowhere ∷ b ∷ outer) in
     let rest = end_of_parts (row_of o) (part_count ps) ∷ tail_pieces level t in
-    ap (λ (y : Heard). hear_all (parts_pieces level ps ++ rest) y) (of_row o (row_of o))
-    ∙ heard_on (parts_pieces level ps) rest x x (parts_nowhere l h level ps (b ∷ outer))
-    ∙ tail_nowhere l h level t (b ∷ outer)
+    ap (λ (y : Heard). hear_all does (parts_pieces level ps ++ rest) y) (of_row o (row_of o))
+    ∙ heard_on does (parts_pieces level ps) rest x x (parts_nowhere does l h level ps (b ∷ outer))
+    ∙ tail_nowhere does l h level t (b ∷ outer)
 
-unasked_inner : (l : Listed) (h : Head) (outer : List Around) (level : ℕ) (t : Tree)
-    → hear_all (pieces level t) (heard l (Some h) (around.inner [] ∷ outer)) ≡ Ok (heard l (Some h) (around.inner [] ∷ outer))
-unasked_inner l h outer level t = unasked l (Some h) (around.inner []) outer (λ n c. refl) (λ o row. refl) level t
+unasked_inner : (does : Bool) (l : Listed) (h : Head) (outer : List Around) (level : ℕ) (t : Tree)
+    → hear_all does (pieces level t) (heard l (Some h) (around.inner [] ∷ outer)) ≡ Ok (heard l (Some h) (around.inner [] ∷ outer))
+unasked_inner does l h outer level t = unasked does l (Some h) (around.inner []) outer (λ n c. refl) (λ o row. refl) level t
 
-unasked_head : (l : Listed) (h : Head) (outer : List Around) (level : ℕ) (t : Tree)
-    → hear_all (pieces level t) (heard l (Some h) (around.head [] ∷ outer)) ≡ Ok (heard l (Some (around.with_part (child nothing) h)) (around.head [] ∷ outer))
-unasked_head l h outer level t = unasked l (Some h) (around.head []) outer (λ n c. refl) (λ o row. refl) level t
+unasked_head : (does : Bool) (l : Listed) (h : Head) (outer : List Around) (level : ℕ) (t : Tree)
+    → hear_all does (pieces level t) (heard l (Some h) (around.head [] ∷ outer)) ≡ Ok (heard l (Some (around.with_part (child nothing) h)) (around.head [] ∷ outer))
+unasked_head does l h outer level t = unasked does l (Some h) (around.head []) outer (λ n c. refl) (λ o row. refl) level t
 
 -- ---- where names are asked
 
@@ -177,6 +190,7 @@ asker h = use_of h.site h.declaring
 opened_asked : (b : Around) (k : Bool) (o : ℕ) (row : Option Row) (x : Heard) → asks b ≡ Some k
     → opened_by b o row x ≡ opening (around.inner (kinds_in o)) x
 opened_asked (around.terms w) k o row x e = absurd cc
+opened_asked (around.run w) k o row x e = absurd cc
 opened_asked (around.head []) k o row x e = absurd cc
 opened_asked (around.head (p ∷ ps)) k o row x e = refl
 opened_asked (around.inner []) k o row x e = absurd cc
@@ -192,13 +206,36 @@ asked_asked : (h : Head) (k : Bool) (n : Name) (count : ℕ) (l : Listed) (outer
 asked_asked h true n count l outer = refl
 asked_asked h false n count l outer = ap (λ (m : Listed). heard m (Some h) outer) (sym (more_none l))
 
--- parts of an opcode whose row has no more kinds
-module _ (l : Listed) (h : Head) (outer : List Around) where
-  abbrev past : Heard
-  past = heard l (Some h) (around.inner [] ∷ outer)
+named_asked : (h : Head) (b : Around) (k : Bool) (n : Name) (count : ℕ) (l : Listed) (outer : List Around) → asks b ≡ Some k
+    → named_by b n count (heard l (Some h) outer)
+    ≡ opening around.arguments (heard (with_more l (cond k (asker h n count ∷ []) [])) (Some h) outer)
+named_asked h b k n count l outer = by b
+  where
+    in_there : Option Bool → Heard
+    in_there o = opening (unwrap_or (option_map (λ (c : Bool). around.arguments) o) around.nowhere) (around.asked_by (Some h) o n count (heard l (Some h) outer))
 
-  past_part : (level : ℕ) (p : Part) → hear_all (part_pieces level p) past ≡ Ok past
-  past_part level (child t) = unasked_inner l h outer level t
+    is : (o : Option Bool) → o ≡ Some k
+        → in_there o ≡ opening around.arguments (heard (with_more l (cond k (asker h n count ∷ []) [])) (Some h) outer)
+    is o e = ap in_there e ∙ ap (opening around.arguments) (asked_asked h k n count l outer)
+
+    by : (b : Around) → asks b ≡ Some k → named_by b n count (heard l (Some h) outer)
+        ≡ opening around.arguments (heard (with_more l (cond k (asker h n count ∷ []) [])) (Some h) outer)
+    by (around.terms w) e = absurd cc
+    by (around.run w) e = absurd cc
+    by (around.head ps) e = is (asks (around.head ps)) e
+    by (around.inner ps) e = is (asks (around.inner ps)) e
+    by around.arguments e = is (asks around.arguments) e
+    by around.elements e = is (asks around.elements) e
+    by around.units e = is (asks around.units) e
+    by around.nowhere e = absurd cc
+
+-- parts of an opcode whose row has no more kinds
+abbrev past : Listed → Head → List Around → Heard
+past l h outer = heard l (Some h) (around.inner [] ∷ outer)
+
+module _ (does : Bool) (l : Listed) (h : Head) (outer : List Around) where
+  past_part : (level : ℕ) (p : Part) → hear_all does (part_pieces level p) (past l h outer) ≡ Ok (past l h outer)
+  past_part level (child t) = unasked_inner does l h outer level t
   past_part level (label n) = refl
   past_part level (byte n) = refl
   past_part level (word n) = refl
@@ -206,10 +243,10 @@ module _ (l : Listed) (h : Head) (outer : List Around) where
   past_part level (qword n) = refl
   past_part level (text n) = refl
 
-  past_more : (level : ℕ) (ps : Parts) → hear_all (more_parts level ps) past ≡ Ok past
+  past_more : (level : ℕ) (ps : Parts) → hear_all does (more_parts level ps) (past l h outer) ≡ Ok (past l h outer)
   past_more level no_parts = refl
   past_more level (part_more p ps) =
-      heard_on (part_pieces level p) (more_parts level ps) past past (past_part level p) ∙ past_more level ps
+      heard_on does (part_pieces level p) (more_parts level ps) (past l h outer) (past l h outer) (past_part level p) ∙ past_more level ps
 
 -- the kinds of the parts behind some parts
 abbrev behind_parts : Parts → List PartKind → List PartKind
@@ -220,142 +257,141 @@ none_behind : (ps : Parts) → behind_parts ps [] ≡ []
 none_behind no_parts = refl
 none_behind (part_more p ps) = none_behind ps
 
-module _ (h : Head) where
-  abbrev stands : Listed → List Around → Heard
-  stands l outer = heard l (Some h) outer
+-- with a head; and behind a term, with its names
+abbrev standing : Head → Listed → List Around → Heard
+standing h l outer = heard l (Some h) outer
 
-  -- behind a term, with its names
-  abbrev behind : Listed → List Use → List Around → Heard
-  behind l us outer = behind_term (heard (with_more l us) (Some h) outer)
+abbrev behind : Head → Listed → List Use → List Around → Heard
+behind h l us outer = behind_term (heard (with_more l us) (Some h) outer)
 
+module _ (does : Bool) (h : Head) where
   mutual
     quiet : (level : ℕ) (t : Tree) (l : Listed) (b : Around) (k : Bool) (outer : List Around) → asks b ≡ Some k
-        → hear_all (pieces level t) (stands l (b ∷ outer)) ≡ Ok (behind l (uses_in (asker h) k t) (b ∷ outer))
-    quiet level nothing l b k outer e = ap (λ (m : Listed). Ok (behind_term (stands m (b ∷ outer)))) (sym (more_none l))
+        → hear_all does (pieces level t) (standing h l (b ∷ outer)) ≡ Ok (behind h l (uses_in (asker h) k t) (b ∷ outer))
+    quiet level nothing l b k outer e = ap (λ (m : Listed). Ok (behind_term (standing h m (b ∷ outer)))) (sym (more_none l))
     quiet level (named n ts) l b k outer e =
         let own = cond k (asker h n (tree_count ts) ∷ []) [] in
         let m = with_more l own in
         let rest = items level ts ++ end_of_call (tree_count ts) ∷ [] in
-        ap (λ (o : Option Bool). hear_all rest (opening (unwrap_or (option_map (λ (c : Bool). around.arguments) o) around.nowhere) (around.asked_by (Some h) o n (tree_count ts) (stands l (b ∷ outer))))) e
-        ∙ ap (λ (x : Heard). hear_all rest (opening around.arguments x)) (asked_asked h k n (tree_count ts) l (b ∷ outer))
-        ∙ heard_on (items level ts) (end_of_call (tree_count ts) ∷ []) (stands m (around.arguments ∷ b ∷ outer))
-        (stands (with_more m (all_uses (asker h) true ts)) (around.arguments ∷ b ∷ outer))
+        ap (λ (x : Heard). hear_all does rest x) (named_asked h b k n (tree_count ts) l (b ∷ outer) e)
+        ∙ heard_on does (items level ts) (end_of_call (tree_count ts) ∷ []) (standing h m (around.arguments ∷ b ∷ outer))
+        (standing h (with_more m (all_uses (asker h) true ts)) (around.arguments ∷ b ∷ outer))
         (items_asked level ts m around.arguments true (b ∷ outer) refl (λ x. refl))
-        ∙ ap (λ (x : Listed). Ok (behind_term (stands x (b ∷ outer)))) (more_more l own (all_uses (asker h) true ts))
+        ∙ ap (λ (x : Listed). Ok (behind_term (standing h x (b ∷ outer)))) (more_more l own (all_uses (asker h) true ts))
     quiet level (op o w ps t) l b k outer e =
         let ks = kinds_in o in
         let us = parts_uses (asker h) ks ps in
         let m = with_more l us in
         let rest = end_of_parts (row_of o) (part_count ps) ∷ tail_pieces level t in
-        ap (λ (y : Heard). hear_all (parts_pieces level ps ++ rest) y) (opened_asked b k o (row_of o) (stands l (b ∷ outer)) e)
-        ∙ heard_on (parts_pieces level ps) rest (stands l (around.inner ks ∷ b ∷ outer)) (stands m (around.inner (behind_parts ps ks) ∷ b ∷ outer))
+        ap (λ (y : Heard). hear_all does (parts_pieces level ps ++ rest) y) (opened_asked b k o (row_of o) (standing h l (b ∷ outer)) e)
+        ∙ heard_on does (parts_pieces level ps) rest (standing h l (around.inner ks ∷ b ∷ outer)) (standing h m (around.inner (behind_parts ps ks) ∷ b ∷ outer))
         (parts_asked level ps l ks (b ∷ outer))
         ∙ tail_asked level t m (behind_parts ps ks) (b ∷ outer)
-        ∙ ap (λ (x : Listed). Ok (behind_term (stands x (b ∷ outer)))) (more_more l us (tail_uses (asker h) t))
+        ∙ ap (λ (x : Listed). Ok (behind_term (standing h x (b ∷ outer)))) (more_more l us (tail_uses (asker h) t))
 
     -- arguments, or elements
     items_asked : (level : ℕ) (ts : Trees) (l : Listed) (c : Around) (k : Bool) (outer : List Around) → asks c ≡ Some k
-        → ((m : Listed) → behind_term (stands m (c ∷ outer)) ≡ stands m (c ∷ outer))
-        → hear_all (items level ts) (stands l (c ∷ outer)) ≡ Ok (stands (with_more l (all_uses (asker h) k ts)) (c ∷ outer))
-    items_asked level no_trees l c k outer e same = ap (λ (m : Listed). Ok (stands m (c ∷ outer))) (sym (more_none l))
+        → ((m : Listed) → behind_term (standing h m (c ∷ outer)) ≡ standing h m (c ∷ outer))
+        → hear_all does (items level ts) (standing h l (c ∷ outer)) ≡ Ok (standing h (with_more l (all_uses (asker h) k ts)) (c ∷ outer))
+    items_asked level no_trees l c k outer e same = ap (λ (m : Listed). Ok (standing h m (c ∷ outer))) (sym (more_none l))
     items_asked level (tree_more t ts) l c k outer e same =
         let m = with_more l (uses_in (asker h) k t) in
-        heard_on (pieces level t) (more_items level ts) (stands l (c ∷ outer)) (behind_term (stands m (c ∷ outer))) (quiet level t l c k outer e)
-        ∙ ap (λ (y : Heard). hear_all (more_items level ts) y) (same m)
+        heard_on does (pieces level t) (more_items level ts) (standing h l (c ∷ outer)) (behind_term (standing h m (c ∷ outer))) (quiet level t l c k outer e)
+        ∙ ap (λ (y : Heard). hear_all does (more_items level ts) y) (same m)
         ∙ more_asked level ts m c k outer e same
-        ∙ ap (λ (x : Listed). Ok (stands x (c ∷ outer))) (more_more l (uses_in (asker h) k t) (all_uses (asker h) k ts))
+        ∙ ap (λ (x : Listed). Ok (standing h x (c ∷ outer))) (more_more l (uses_in (asker h) k t) (all_uses (asker h) k ts))
 
     more_asked : (level : ℕ) (ts : Trees) (l : Listed) (c : Around) (k : Bool) (outer : List Around) → asks c ≡ Some k
-        → ((m : Listed) → behind_term (stands m (c ∷ outer)) ≡ stands m (c ∷ outer))
-        → hear_all (more_items level ts) (stands l (c ∷ outer)) ≡ Ok (stands (with_more l (all_uses (asker h) k ts)) (c ∷ outer))
-    more_asked level no_trees l c k outer e same = ap (λ (m : Listed). Ok (stands m (c ∷ outer))) (sym (more_none l))
+        → ((m : Listed) → behind_term (standing h m (c ∷ outer)) ≡ standing h m (c ∷ outer))
+        → hear_all does (more_items level ts) (standing h l (c ∷ outer)) ≡ Ok (standing h (with_more l (all_uses (asker h) k ts)) (c ∷ outer))
+    more_asked level no_trees l c k outer e same = ap (λ (m : Listed). Ok (standing h m (c ∷ outer))) (sym (more_none l))
     more_asked level (tree_more t ts) l c k outer e same =
         let m = with_more l (uses_in (asker h) k t) in
-        heard_on (pieces level t) (more_items level ts) (stands l (c ∷ outer)) (behind_term (stands m (c ∷ outer))) (quiet level t l c k outer e)
-        ∙ ap (λ (y : Heard). hear_all (more_items level ts) y) (same m)
+        heard_on does (pieces level t) (more_items level ts) (standing h l (c ∷ outer)) (behind_term (standing h m (c ∷ outer))) (quiet level t l c k outer e)
+        ∙ ap (λ (y : Heard). hear_all does (more_items level ts) y) (same m)
         ∙ more_asked level ts m c k outer e same
-        ∙ ap (λ (x : Listed). Ok (stands x (c ∷ outer))) (more_more l (uses_in (asker h) k t) (all_uses (asker h) k ts))
+        ∙ ap (λ (x : Listed). Ok (standing h x (c ∷ outer))) (more_more l (uses_in (asker h) k t) (all_uses (asker h) k ts))
 
     part_asked : (level : ℕ) (p : Part) (l : Listed) (k : PartKind) (ks : List PartKind) (outer : List Around)
-        → hear_all (part_pieces level p) (stands l (around.inner (k ∷ ks) ∷ outer))
-        ≡ Ok (stands (with_more l (part_uses (asker h) (is_argument k) p)) (around.inner ks ∷ outer))
+        → hear_all does (part_pieces level p) (standing h l (around.inner (k ∷ ks) ∷ outer))
+        ≡ Ok (standing h (with_more l (part_uses (asker h) (is_argument k) p)) (around.inner ks ∷ outer))
     part_asked level (child t) l k ks outer = quiet level t l (around.inner (k ∷ ks)) (is_argument k) outer refl
-    part_asked level (label n) l k ks outer = ap (λ (m : Listed). Ok (stands m (around.inner ks ∷ outer))) (sym (more_none l))
-    part_asked level (byte n) l k ks outer = ap (λ (m : Listed). Ok (stands m (around.inner ks ∷ outer))) (sym (more_none l))
-    part_asked level (word n) l k ks outer = ap (λ (m : Listed). Ok (stands m (around.inner ks ∷ outer))) (sym (more_none l))
-    part_asked level (dword n) l k ks outer = ap (λ (m : Listed). Ok (stands m (around.inner ks ∷ outer))) (sym (more_none l))
-    part_asked level (qword n) l k ks outer = ap (λ (m : Listed). Ok (stands m (around.inner ks ∷ outer))) (sym (more_none l))
-    part_asked level (text n) l k ks outer = ap (λ (m : Listed). Ok (stands m (around.inner ks ∷ outer))) (sym (more_none l))
+    part_asked level (label n) l k ks outer = ap (λ (m : Listed). Ok (standing h m (around.inner ks ∷ outer))) (sym (more_none l))
+    part_asked level (byte n) l k ks outer = ap (λ (m : Listed). Ok (standing h m (around.inner ks ∷ outer))) (sym (more_none l))
+    part_asked level (word n) l k ks outer = ap (λ (m : Listed). Ok (standing h m (around.inner ks ∷ outer))) (sym (more_none l))
+    part_asked level (dword n) l k ks outer = ap (λ (m : Listed). Ok (standing h m (around.inner ks ∷ outer))) (sym (more_none l))
+    part_asked level (qword n) l k ks outer = ap (λ (m : Listed). Ok (standing h m (around.inner ks ∷ outer))) (sym (more_none l))
+    part_asked level (text n) l k ks outer = ap (λ (m : Listed). Ok (standing h m (around.inner ks ∷ outer))) (sym (more_none l))
 
     more_parts_asked : (level : ℕ) (ps : Parts) (l : Listed) (ks : List PartKind) (outer : List Around)
-        → hear_all (more_parts level ps) (stands l (around.inner ks ∷ outer))
-        ≡ Ok (stands (with_more l (parts_uses (asker h) ks ps)) (around.inner (behind_parts ps ks) ∷ outer))
-    more_parts_asked level ps l [] outer = past_more l h outer level ps
-        ∙ sym (λ i. Ok (stands (more_none l i) (around.inner (none_behind ps i) ∷ outer)))
+        → hear_all does (more_parts level ps) (standing h l (around.inner ks ∷ outer))
+        ≡ Ok (standing h (with_more l (parts_uses (asker h) ks ps)) (around.inner (behind_parts ps ks) ∷ outer))
+    more_parts_asked level ps l [] outer = past_more does l h outer level ps
+        ∙ sym (λ i. Ok (standing h (more_none l i) (around.inner (none_behind ps i) ∷ outer)))
     more_parts_asked level no_parts l (k ∷ ks) outer =
-        ap (λ (m : Listed). Ok (stands m (around.inner (k ∷ ks) ∷ outer))) (sym (more_none l))
+        ap (λ (m : Listed). Ok (standing h m (around.inner (k ∷ ks) ∷ outer))) (sym (more_none l))
     more_parts_asked level (part_more p ps) l (k ∷ ks) outer =
         let us = part_uses (asker h) (is_argument k) p in
-        heard_on (part_pieces level p) (more_parts level ps) (stands l (around.inner (k ∷ ks) ∷ outer)) (stands (with_more l us) (around.inner ks ∷ outer))
+        heard_on does (part_pieces level p) (more_parts level ps) (standing h l (around.inner (k ∷ ks) ∷ outer)) (standing h (with_more l us) (around.inner ks ∷ outer))
         (part_asked level p l k ks outer)
         ∙ more_parts_asked level ps (with_more l us) ks outer
-        ∙ ap (λ (x : Listed). Ok (stands x (around.inner (behind_parts ps ks) ∷ outer))) (more_more l us (parts_uses (asker h) ks ps))
+        ∙ ap (λ (x : Listed). Ok (standing h x (around.inner (behind_parts ps ks) ∷ outer))) (more_more l us (parts_uses (asker h) ks ps))
 
     parts_asked : (level : ℕ) (ps : Parts) (l : Listed) (ks : List PartKind) (outer : List Around)
-        → hear_all (parts_pieces level ps) (stands l (around.inner ks ∷ outer))
-        ≡ Ok (stands (with_more l (parts_uses (asker h) ks ps)) (around.inner (behind_parts ps ks) ∷ outer))
-    parts_asked level no_parts l [] outer = ap (λ (m : Listed). Ok (stands m (around.inner [] ∷ outer))) (sym (more_none l))
+        → hear_all does (parts_pieces level ps) (standing h l (around.inner ks ∷ outer))
+        ≡ Ok (standing h (with_more l (parts_uses (asker h) ks ps)) (around.inner (behind_parts ps ks) ∷ outer))
+    parts_asked level no_parts l [] outer = ap (λ (m : Listed). Ok (standing h m (around.inner [] ∷ outer))) (sym (more_none l))
     parts_asked level no_parts l (k ∷ ks) outer =
-        ap (λ (m : Listed). Ok (stands m (around.inner (k ∷ ks) ∷ outer))) (sym (more_none l))
+        ap (λ (m : Listed). Ok (standing h m (around.inner (k ∷ ks) ∷ outer))) (sym (more_none l))
     parts_asked level (part_more p ps) l [] outer =
-        heard_on (part_pieces level p) (more_parts level ps) (past l h outer) (past l h outer) (past_part l h outer level p)
+        heard_on does (part_pieces level p) (more_parts level ps) (past l h outer) (past l h outer) (past_part does l h outer level p)
         ∙ more_parts_asked level ps l [] outer
     parts_asked level (part_more p ps) l (k ∷ ks) outer =
         let us = part_uses (asker h) (is_argument k) p in
-        heard_on (part_pieces level p) (more_parts level ps) (stands l (around.inner (k ∷ ks) ∷ outer)) (stands (with_more l us) (around.inner ks ∷ outer))
+        heard_on does (part_pieces level p) (more_parts level ps) (standing h l (around.inner (k ∷ ks) ∷ outer)) (standing h (with_more l us) (around.inner ks ∷ outer))
         (part_asked level p l k ks outer)
         ∙ more_parts_asked level ps (with_more l us) ks outer
-        ∙ ap (λ (x : Listed). Ok (stands x (around.inner (behind_parts ps ks) ∷ outer))) (more_more l us (parts_uses (asker h) ks ps))
+        ∙ ap (λ (x : Listed). Ok (standing h x (around.inner (behind_parts ps ks) ∷ outer))) (more_more l us (parts_uses (asker h) ks ps))
 
     tail_asked : (level : ℕ) (t : Tail) (l : Listed) (ks : List PartKind) (outer : List Around)
-        → hear_all (tail_pieces level t) (stands l (around.inner ks ∷ outer)) ≡ Ok (behind l (tail_uses (asker h) t) outer)
-    tail_asked level empty l ks outer = ap (λ (m : Listed). Ok (behind_term (stands m outer))) (sym (more_none l))
-    tail_asked level (bytes xs) l ks outer = ap (λ (m : Listed). Ok (behind_term (stands m outer))) (sym (more_none l))
-    tail_asked level (body start len) l ks outer = ap (λ (m : Listed). Ok (behind_term (stands m outer))) (sym (more_none l))
+        → hear_all does (tail_pieces level t) (standing h l (around.inner ks ∷ outer)) ≡ Ok (behind h l (tail_uses (asker h) t) outer)
+    tail_asked level empty l ks outer = ap (λ (m : Listed). Ok (behind_term (standing h m outer))) (sym (more_none l))
+    tail_asked level (bytes xs) l ks outer = ap (λ (m : Listed). Ok (behind_term (standing h m outer))) (sym (more_none l))
+    tail_asked level (body start len) l ks outer = ap (λ (m : Listed). Ok (behind_term (standing h m outer))) (sym (more_none l))
     tail_asked level (terms ts) l ks outer =
-        let x = stands l (around.nowhere ∷ around.inner ks ∷ outer) in
-        heard_on (line_pieces (deeper level) ts) (end_of_list tails.Terms level ∷ []) x x (lines_nowhere l (Some h) (deeper level) ts (around.inner ks ∷ outer))
-        ∙ ap (λ (m : Listed). Ok (behind_term (stands m outer))) (sym (more_none l))
+        let x = standing h l (around.nowhere ∷ around.inner ks ∷ outer) in
+        heard_on does (line_pieces (deeper level) ts) (end_of_list tails.Terms level ∷ []) x x (lines_nowhere does l (Some h) (deeper level) ts (around.inner ks ∷ outer))
+        ∙ ap (λ (m : Listed). Ok (behind_term (standing h m outer))) (sym (more_none l))
     tail_asked level (elements ts) l ks outer =
         let front = around.elements ∷ around.inner ks ∷ outer in
-        heard_on (items level ts) (end_of_list tails.Elements level ∷ []) (stands l front) (stands (with_more l (all_uses (asker h) false ts)) front)
+        heard_on does (items level ts) (end_of_list tails.Elements level ∷ []) (standing h l front) (standing h (with_more l (all_uses (asker h) false ts)) front)
         (items_asked level ts l around.elements false (around.inner ks ∷ outer) refl (λ x. refl))
     tail_asked level (fields us) l ks outer =
         let front = around.elements ∷ around.inner ks ∷ outer in
-        heard_on (fields_pieces (deeper level) us) (end_of_list tails.Fields level ∷ []) (stands l front) (stands (with_more l (fields_uses (asker h) us)) front)
+        heard_on does (fields_pieces (deeper level) us) (end_of_list tails.Fields level ∷ []) (standing h l front) (standing h (with_more l (fields_uses (asker h) us)) front)
         (fields_asked (deeper level) us l (around.inner ks ∷ outer))
 
     fields_asked : (level : ℕ) (us : Fields) (l : Listed) (outer : List Around)
-        → hear_all (fields_pieces level us) (stands l (around.elements ∷ outer))
-        ≡ Ok (stands (with_more l (fields_uses (asker h) us)) (around.elements ∷ outer))
-    fields_asked level no_fields l outer = ap (λ (m : Listed). Ok (stands m (around.elements ∷ outer))) (sym (more_none l))
+        → hear_all does (fields_pieces level us) (standing h l (around.elements ∷ outer))
+        ≡ Ok (standing h (with_more l (fields_uses (asker h) us)) (around.elements ∷ outer))
+    fields_asked level no_fields l outer = ap (λ (m : Listed). Ok (standing h m (around.elements ∷ outer))) (sym (more_none l))
     fields_asked level (field_more u us) l outer =
         let m = with_more l (field_uses (asker h) u) in
-        heard_on (field_pieces level u) (end_of_line ∷ fields_pieces level us) (stands l (around.elements ∷ outer)) (stands m (around.elements ∷ outer))
+        heard_on does (field_pieces level u) (end_of_line ∷ fields_pieces level us) (standing h l (around.elements ∷ outer)) (standing h m (around.elements ∷ outer))
         (field_asked level u l outer)
         ∙ fields_asked level us m outer
-        ∙ ap (λ (x : Listed). Ok (stands x (around.elements ∷ outer))) (more_more l (field_uses (asker h) u) (fields_uses (asker h) us))
+        ∙ ap (λ (x : Listed). Ok (standing h x (around.elements ∷ outer))) (more_more l (field_uses (asker h) u) (fields_uses (asker h) us))
 
     field_asked : (level : ℕ) (u : Field) (l : Listed) (outer : List Around)
-        → hear_all (field_pieces level u) (stands l (around.elements ∷ outer))
-        ≡ Ok (stands (with_more l (field_uses (asker h) u)) (around.elements ∷ outer))
-    field_asked level (unit s w n) l outer = ap (λ (m : Listed). Ok (stands m (around.elements ∷ outer))) (sym (more_none l))
-    field_asked level (reserved w n) l outer = ap (λ (m : Listed). Ok (stands m (around.elements ∷ outer))) (sym (more_none l))
-    field_asked level (access a b) l outer = ap (λ (m : Listed). Ok (stands m (around.elements ∷ outer))) (sym (more_none l))
-    field_asked level (extended a b c) l outer = ap (λ (m : Listed). Ok (stands m (around.elements ∷ outer))) (sym (more_none l))
-    field_asked level (connection (target n)) l outer = ap (λ (m : Listed). Ok (stands m (around.elements ∷ outer))) (sym (more_none l))
+        → hear_all does (field_pieces level u) (standing h l (around.elements ∷ outer))
+        ≡ Ok (standing h (with_more l (field_uses (asker h) u)) (around.elements ∷ outer))
+    field_asked level (unit s w n) l outer = ap (λ (m : Listed). Ok (standing h m (around.elements ∷ outer))) (sym (more_none l))
+    field_asked level (reserved w n) l outer = ap (λ (m : Listed). Ok (standing h m (around.elements ∷ outer))) (sym (more_none l))
+    field_asked level (access a b) l outer = ap (λ (m : Listed). Ok (standing h m (around.elements ∷ outer))) (sym (more_none l))
+    field_asked level (extended a b c) l outer = ap (λ (m : Listed). Ok (standing h m (around.elements ∷ outer))) (sym (more_none l))
+    field_asked level (connection (target n)) l outer = ap (λ (m : Listed). Ok (standing h m (around.elements ∷ outer))) (sym (more_none l))
     field_asked level (connection (buffer t)) l outer =
-        heard_on (pieces level t) (end_of_link ∷ []) (stands l (around.elements ∷ outer)) (behind l (uses_in (asker h) false t) (around.elements ∷ outer))
+        heard_on does (pieces level t) (end_of_link ∷ []) (standing h l (around.elements ∷ outer)) (behind h l (uses_in (asker h) false t) (around.elements ∷ outer))
         (quiet level t l around.elements false outer refl)
 
 -- ---- the head of a term
@@ -374,59 +410,59 @@ same_asker (dword n) h = refl
 same_asker (qword n) h = refl
 same_asker (text n) h = refl
 
-head_part : (level : ℕ) (p : Part) (l : Listed) (h : Head) (k : PartKind) (ks : List PartKind) (outer : List Around)
-    → hear_all (part_pieces level p) (heard l (Some h) (around.head (k ∷ ks) ∷ outer))
+head_part : (does : Bool) (level : ℕ) (p : Part) (l : Listed) (h : Head) (k : PartKind) (ks : List PartKind) (outer : List Around)
+    → hear_all does (part_pieces level p) (heard l (Some h) (around.head (k ∷ ks) ∷ outer))
     ≡ Ok (heard (with_more l (part_uses (asker h) (is_argument k) p)) (Some (around.with_part p h)) (around.head ks ∷ outer))
-head_part level (child t) l h k ks outer = quiet h level t l (around.head (k ∷ ks)) (is_argument k) outer refl
-head_part level (label n) l h k ks outer =
+head_part does level (child t) l h k ks outer = quiet does h level t l (around.head (k ∷ ks)) (is_argument k) outer refl
+head_part does level (label n) l h k ks outer =
     ap (λ (m : Listed). Ok (heard m (Some (around.with_part (label n) h)) (around.head ks ∷ outer))) (sym (more_none l))
-head_part level (byte n) l h k ks outer =
+head_part does level (byte n) l h k ks outer =
     ap (λ (m : Listed). Ok (heard m (Some (around.with_part (byte n) h)) (around.head ks ∷ outer))) (sym (more_none l))
-head_part level (word n) l h k ks outer =
+head_part does level (word n) l h k ks outer =
     ap (λ (m : Listed). Ok (heard m (Some (around.with_part (word n) h)) (around.head ks ∷ outer))) (sym (more_none l))
-head_part level (dword n) l h k ks outer =
+head_part does level (dword n) l h k ks outer =
     ap (λ (m : Listed). Ok (heard m (Some (around.with_part (dword n) h)) (around.head ks ∷ outer))) (sym (more_none l))
-head_part level (qword n) l h k ks outer =
+head_part does level (qword n) l h k ks outer =
     ap (λ (m : Listed). Ok (heard m (Some (around.with_part (qword n) h)) (around.head ks ∷ outer))) (sym (more_none l))
-head_part level (text n) l h k ks outer =
+head_part does level (text n) l h k ks outer =
     ap (λ (m : Listed). Ok (heard m (Some (around.with_part (text n) h)) (around.head ks ∷ outer))) (sym (more_none l))
 
-past_head_part : (level : ℕ) (p : Part) (l : Listed) (h : Head) (outer : List Around)
-    → hear_all (part_pieces level p) (heard l (Some h) (around.head [] ∷ outer))
+past_head_part : (does : Bool) (level : ℕ) (p : Part) (l : Listed) (h : Head) (outer : List Around)
+    → hear_all does (part_pieces level p) (heard l (Some h) (around.head [] ∷ outer))
     ≡ Ok (heard l (Some (around.with_part p h)) (around.head [] ∷ outer))
-past_head_part level (child t) l h outer = unasked_head l h outer level t
-past_head_part level (label n) l h outer = refl
-past_head_part level (byte n) l h outer = refl
-past_head_part level (word n) l h outer = refl
-past_head_part level (dword n) l h outer = refl
-past_head_part level (qword n) l h outer = refl
-past_head_part level (text n) l h outer = refl
+past_head_part does level (child t) l h outer = unasked_head does l h outer level t
+past_head_part does level (label n) l h outer = refl
+past_head_part does level (byte n) l h outer = refl
+past_head_part does level (word n) l h outer = refl
+past_head_part does level (dword n) l h outer = refl
+past_head_part does level (qword n) l h outer = refl
+past_head_part does level (text n) l h outer = refl
 
-more_head_parts : (level : ℕ) (ps : Parts) (l : Listed) (h : Head) (ks : List PartKind) (outer : List Around)
-    → hear_all (more_parts level ps) (heard l (Some h) (around.head ks ∷ outer))
+more_head_parts : (does : Bool) (level : ℕ) (ps : Parts) (l : Listed) (h : Head) (ks : List PartKind) (outer : List Around)
+    → hear_all does (more_parts level ps) (heard l (Some h) (around.head ks ∷ outer))
     ≡ Ok (heard (with_more l (parts_uses (asker h) ks ps)) (Some (behind_head ps h)) (around.head (behind_parts ps ks) ∷ outer))
-more_head_parts level no_parts l h [] outer =
+more_head_parts does level no_parts l h [] outer =
     ap (λ (m : Listed). Ok (heard m (Some h) (around.head [] ∷ outer))) (sym (more_none l))
-more_head_parts level no_parts l h (k ∷ ks) outer =
+more_head_parts does level no_parts l h (k ∷ ks) outer =
     ap (λ (m : Listed). Ok (heard m (Some h) (around.head (k ∷ ks) ∷ outer))) (sym (more_none l))
-more_head_parts level (part_more p ps) l h [] outer =
-    heard_on (part_pieces level p) (more_parts level ps) (heard l (Some h) (around.head [] ∷ outer)) (heard l (Some (around.with_part p h)) (around.head [] ∷ outer))
-    (past_head_part level p l h outer)
-    ∙ more_head_parts level ps l (around.with_part p h) [] outer
-more_head_parts level (part_more p ps) l h (k ∷ ks) outer =
+more_head_parts does level (part_more p ps) l h [] outer =
+    heard_on does (part_pieces level p) (more_parts level ps) (heard l (Some h) (around.head [] ∷ outer)) (heard l (Some (around.with_part p h)) (around.head [] ∷ outer))
+    (past_head_part does level p l h outer)
+    ∙ more_head_parts does level ps l (around.with_part p h) [] outer
+more_head_parts does level (part_more p ps) l h (k ∷ ks) outer =
     let us = part_uses (asker h) (is_argument k) p in
     let next = around.with_part p h in
-    heard_on (part_pieces level p) (more_parts level ps) (heard l (Some h) (around.head (k ∷ ks) ∷ outer)) (heard (with_more l us) (Some next) (around.head ks ∷ outer))
-    (head_part level p l h k ks outer)
-    ∙ more_head_parts level ps (with_more l us) next ks outer
+    heard_on does (part_pieces level p) (more_parts level ps) (heard l (Some h) (around.head (k ∷ ks) ∷ outer)) (heard (with_more l us) (Some next) (around.head ks ∷ outer))
+    (head_part does level p l h k ks outer)
+    ∙ more_head_parts does level ps (with_more l us) next ks outer
     ∙ ap (λ (ask : Name → ℕ → Use). Ok (heard (with_more (with_more l us) (parts_uses ask ks ps)) (Some (behind_head ps next)) (around.head (behind_parts ps ks) ∷ outer))) (same_asker p h)
     ∙ ap (λ (x : Listed). Ok (heard x (Some (behind_head ps next)) (around.head (behind_parts ps ks) ∷ outer))) (more_more l us (parts_uses (asker h) ks ps))
 
-head_parts : (level : ℕ) (ps : Parts) (l : Listed) (h : Head) (ks : List PartKind) (outer : List Around)
-    → hear_all (parts_pieces level ps) (heard l (Some h) (around.head ks ∷ outer))
+head_parts : (does : Bool) (level : ℕ) (ps : Parts) (l : Listed) (h : Head) (ks : List PartKind) (outer : List Around)
+    → hear_all does (parts_pieces level ps) (heard l (Some h) (around.head ks ∷ outer))
     ≡ Ok (heard (with_more l (parts_uses (asker h) ks ps)) (Some (behind_head ps h)) (around.head (behind_parts ps ks) ∷ outer))
-head_parts level no_parts l h ks outer = more_head_parts level no_parts l h ks outer
-head_parts level (part_more p ps) l h ks outer = more_head_parts level (part_more p ps) l h ks outer
+head_parts does level no_parts l h ks outer = more_head_parts does level no_parts l h ks outer
+head_parts does level (part_more p ps) l h ks outer = more_head_parts does level (part_more p ps) l h ks outer
 
 -- ---- what the head holds then
 
@@ -497,36 +533,36 @@ units_more u us h = λ i. record h { units = (append_assoc h.units (unit_names (
 no_units : (h : Head) (ns : List Name) → ns ≡ [] → record h { units = h.units ++ ns } ≡ h
 no_units h ns none = λ i. record h { units = (ap (λ ns. h.units ++ ns) none ∙ append-nil h.units) i }
 
-field_units : (level : ℕ) (u : Field) (l : Listed) (h : Head) (outer : List Around)
-    → hear_all (field_pieces level u) (heard l (Some h) (around.units ∷ outer))
+field_units : (does : Bool) (level : ℕ) (u : Field) (l : Listed) (h : Head) (outer : List Around)
+    → hear_all does (field_pieces level u) (heard l (Some h) (around.units ∷ outer))
     ≡ Ok (heard (with_more l (field_uses (asker h) u)) (Some (around.with_unit u h)) (around.units ∷ outer))
-field_units level (unit s w n) l h outer =
+field_units does level (unit s w n) l h outer =
     ap (λ (m : Listed). Ok (heard m (Some (around.with_unit (unit s w n) h)) (around.units ∷ outer))) (sym (more_none l))
-field_units level (reserved w n) l h outer =
+field_units does level (reserved w n) l h outer =
     ap (λ (m : Listed). Ok (heard m (Some (around.with_unit (reserved w n) h)) (around.units ∷ outer))) (sym (more_none l))
-field_units level (access a b) l h outer =
+field_units does level (access a b) l h outer =
     ap (λ (m : Listed). Ok (heard m (Some (around.with_unit (access a b) h)) (around.units ∷ outer))) (sym (more_none l))
-field_units level (extended a b c) l h outer =
+field_units does level (extended a b c) l h outer =
     ap (λ (m : Listed). Ok (heard m (Some (around.with_unit (extended a b c) h)) (around.units ∷ outer))) (sym (more_none l))
-field_units level (connection (target n)) l h outer =
+field_units does level (connection (target n)) l h outer =
     ap (λ (m : Listed). Ok (heard m (Some (around.with_unit (connection (target n)) h)) (around.units ∷ outer))) (sym (more_none l))
-field_units level (connection (buffer t)) l h outer =
+field_units does level (connection (buffer t)) l h outer =
     let m = with_more l (uses_in (asker h) false t) in
-    heard_on (pieces level t) (end_of_link ∷ []) (heard l (Some h) (around.units ∷ outer)) (heard m (Some h) (around.units ∷ outer))
-    (quiet h level t l around.units false outer refl)
+    heard_on does (pieces level t) (end_of_link ∷ []) (heard l (Some h) (around.units ∷ outer)) (heard m (Some h) (around.units ∷ outer))
+    (quiet does h level t l around.units false outer refl)
     ∙ ap (λ (x : Head). Ok (heard m (Some x) (around.units ∷ outer))) (sym (no_units h [] refl))
 
-fields_units : (level : ℕ) (us : Fields) (l : Listed) (h : Head) (outer : List Around)
-    → hear_all (fields_pieces level us) (heard l (Some h) (around.units ∷ outer))
+fields_units : (does : Bool) (level : ℕ) (us : Fields) (l : Listed) (h : Head) (outer : List Around)
+    → hear_all does (fields_pieces level us) (heard l (Some h) (around.units ∷ outer))
     ≡ Ok (heard (with_more l (fields_uses (asker h) us)) (Some (with_units us h)) (around.units ∷ outer))
-fields_units level no_fields l h outer =
+fields_units does level no_fields l h outer =
     sym (λ i. Ok (heard (more_none l i) (Some (no_units h [] refl i)) (around.units ∷ outer)))
-fields_units level (field_more u us) l h outer =
+fields_units does level (field_more u us) l h outer =
     let m = with_more l (field_uses (asker h) u) in
     let x = around.with_unit u h in
-    heard_on (field_pieces level u) (end_of_line ∷ fields_pieces level us) (heard l (Some h) (around.units ∷ outer)) (heard m (Some x) (around.units ∷ outer))
-    (field_units level u l h outer)
-    ∙ fields_units level us m x outer
+    heard_on does (field_pieces level u) (end_of_line ∷ fields_pieces level us) (heard l (Some h) (around.units ∷ outer)) (heard m (Some x) (around.units ∷ outer))
+    (field_units does level u l h outer)
+    ∙ fields_units does level us m x outer
     ∙ (λ i. Ok (heard (more_more l (field_uses (asker h) u) (fields_uses (asker h) us) i) (Some (units_more u us h i)) (around.units ∷ outer)))
 
 -- ---- what a term does
@@ -547,12 +583,12 @@ abbrev on_again : Result Listed LoadFault → Where → List Around → Result H
 on_again r w outer = r >>= λ m. Ok (heard m None (around.terms w ∷ outer))
 
 -- a tail without terms
-flat_tail : (t : Tail) (r : Result (Listed × Option Where) LoadFault) (w : Where) (outer : List Around)
+flat_tail : (t : Tail) (r : Result (Listed × Option Where) LoadFault) (ks : List PartKind) (w : Where) (outer : List Around)
     → ((v : Where) (m : Listed) → declare_inside v m t ≡ Ok m)
-    → (((r >>= λ y. Ok (heard y.0 None (around.terms w ∷ outer))) >>= λ y. Ok (behind_term y)) >>= λ y. hear_all [] y)
+    → (((r >>= λ y. Ok (heard y.0 None (around.head ks ∷ around.terms w ∷ outer))) >>= λ y. Ok (closed y)) >>= λ y. hear_all true [] y)
     ≡ on_again (entered r t) w outer
-flat_tail t (Err e) w outer flat = refl
-flat_tail t (Ok y) w outer flat = by y.1
+flat_tail t (Err e) ks w outer flat = refl
+flat_tail t (Ok y) ks w outer flat = by y.1
   where
     by : (o : Option Where) → Ok (heard y.0 None (around.terms w ∷ outer)) ≡ on_again (inside_of o t y.0) w outer
     by None = refl
@@ -560,7 +596,7 @@ flat_tail t (Ok y) w outer flat = by y.1
 
 -- behind the terms inside a term
 behind_inside : (r : Result Listed LoadFault) (level : ℕ) (b : Around) (ks : List PartKind) (w : Where) (outer : List Around)
-    → ((r >>= λ m. Ok (heard m None (b ∷ around.head ks ∷ around.terms w ∷ outer))) >>= λ y. hear_all (end_of_list tails.Terms level ∷ []) y)
+    → ((r >>= λ m. Ok (heard m None (b ∷ around.head ks ∷ around.terms w ∷ outer))) >>= λ y. hear_all true (end_of_list tails.Terms level ∷ []) y)
     ≡ on_again r w outer
 behind_inside (Ok m) level b ks w outer = refl
 behind_inside (Err e) level b ks w outer = refl
@@ -589,11 +625,12 @@ no_step : (r : Result Listed LoadFault) (t : Tail) → entered (r >>= λ m. Ok (
 no_step (Err x) t = refl
 no_step (Ok m) t = refl
 
-enter_is : (role : Role) (w : Where) (declaring begun : Bool) (source : Option Name) (ps : Parts) (t : Tail) (l : Listed)
+enter_is : (role : Role) (w : Where) (declaring begun : Bool) (shape : Shape) (source : Option Name) (ps : Parts) (t : Tail) (l : Listed)
     → source ≡ first_label ps
     → let h : Head = record {
       site = w;
       declaring = declaring;
+      shape = shape;
       role = role;
       begun = begun;
       source = source;
@@ -602,23 +639,24 @@ enter_is : (role : Role) (w : Where) (declaring begun : Bool) (source : Option N
       units = field_names t;
     } in entered (enter h l (body_span t)) t ≡ declare_as role w l ps t (λ l below. declare_inside below l t)
 unfolding enter around.enter_as around.enter_kind declare_as
-enter_is (roles.Declares o) w d begun source ps t l e =
+enter_is (roles.Declares o) w d begun shape source ps t l e =
     two_steps (place_at w (last_label None ps)) (λ p. entry_at w l p (plain_entry w l.entries (kind_of o) p)) (λ p. under w p) t
-enter_is roles.Scope w d begun source ps t l e =
+enter_is roles.Scope w d begun shape source ps t l e =
     one_step (lead_at w l.entries (last_label None ps) (λ p. faults.ScopeMissing p)) l (λ p. under w p) t
-enter_is roles.Guard w d begun source ps t l e = refl
-enter_is roles.Other w d begun source ps t l e = refl
-enter_is roles.Method w d begun source ps t l e = no_step (method_at w l (last_label None ps) (byte_of ps) (body_span t)) t
-enter_is roles.Alias w d begun source ps t l e =
+enter_is roles.Guard w d begun shape source ps t l e = refl
+enter_is roles.Other w d begun shape source ps t l e = refl
+enter_is roles.Method w d begun shape source ps t l e = no_step (method_at w l (last_label None ps) (byte_of ps) (body_span t)) t
+enter_is roles.Alias w d begun shape source ps t l e =
     no_step (alias_at w l source (last_label None ps)) t
     ∙ ap (λ (n : Option Name). alias_at w l n (last_label None ps)) e
-enter_is roles.External w d begun source ps t l e = no_step (external_at w l (last_label None ps) (byte_of ps)) t
-enter_is roles.Fields w d begun source ps t l e = no_step (units_at w l (field_names t)) t
+enter_is roles.External w d begun shape source ps t l e = no_step (external_at w l (last_label None ps) (byte_of ps)) t
+enter_is roles.Fields w d begun shape source ps t l e = no_step (units_at w l (field_names t)) t
 
 -- the head behind its parts and its tail
 head_met : (w : Where) (row : Option Row) (ps : Parts) (t : Tail) → with_tail t (behind_head ps (around.head_of w row)) ≡ record {
   site = w;
   declaring = unwrap_or (option_map (λ (r : Row). declares_by r.group) row) false;
+  shape = unwrap_or (option_map (λ (r : Row). around.shape_by r.tail) row) shapes.Flat;
   role = unwrap_or (option_map (λ (r : Row). r.role) row) roles.Other;
   begun = begun_behind false ps;
   source = source_behind false None ps;
@@ -638,31 +676,31 @@ asker_behind no_parts h = refl
 asker_behind (part_more p ps) h = asker_behind ps (around.with_part p h) ∙ same_asker p h
 
 terms_tail : (level : ℕ) (ts : Trees) (ks : List PartKind) (w : Where) (outer : List Around) (r : Result (Listed × Option Where) LoadFault)
-    → ((v : Where) (m : Listed) → hear_all (line_pieces (deeper level) ts) (heard m None (around.terms v ∷ around.head ks ∷ around.terms w ∷ outer))
+    → ((v : Where) (m : Listed) → hear_all true (line_pieces (deeper level) ts) (heard m None (around.terms v ∷ around.head ks ∷ around.terms w ∷ outer))
     ≡ on_again (declare_all v m ts) v (around.head ks ∷ around.terms w ∷ outer))
     → ((r >>= λ y. Ok (heard y.0 None (around.entered_by y.1 ∷ around.head ks ∷ around.terms w ∷ outer)))
-    >>= λ y. hear_all (line_pieces (deeper level) ts ++ end_of_list tails.Terms level ∷ []) y)
+    >>= λ y. hear_all true (line_pieces (deeper level) ts ++ end_of_list tails.Terms level ∷ []) y)
     ≡ on_again (entered r (terms ts)) w outer
 unfolding declare_inside
 terms_tail level ts ks w outer (Err e) law = refl
 terms_tail level ts ks w outer (Ok y) law = by y.1
   where
     by : (o : Option Where)
-        → hear_all (line_pieces (deeper level) ts ++ end_of_list tails.Terms level ∷ []) (heard y.0 None (around.entered_by o ∷ around.head ks ∷ around.terms w ∷ outer))
+        → hear_all true (line_pieces (deeper level) ts ++ end_of_list tails.Terms level ∷ []) (heard y.0 None (around.entered_by o ∷ around.head ks ∷ around.terms w ∷ outer))
         ≡ on_again (inside_of o (terms ts) y.0) w outer
     by None =
         let x = heard y.0 None (around.nowhere ∷ around.head ks ∷ around.terms w ∷ outer) in
-        heard_on (line_pieces (deeper level) ts) (end_of_list tails.Terms level ∷ []) x x
-        (lines_nowhere y.0 None (deeper level) ts (around.head ks ∷ around.terms w ∷ outer))
+        heard_on true (line_pieces (deeper level) ts) (end_of_list tails.Terms level ∷ []) x x
+        (lines_nowhere true y.0 None (deeper level) ts (around.head ks ∷ around.terms w ∷ outer))
     by (Some v) =
         let x = heard y.0 None (around.terms v ∷ around.head ks ∷ around.terms w ∷ outer) in
-        after (line_pieces (deeper level) ts) (end_of_list tails.Terms level ∷ []) x
-        ∙ ap (λ (r : Result Heard LoadFault). r >>= λ z. hear_all (end_of_list tails.Terms level ∷ []) z) (law v y.0)
+        after true (line_pieces (deeper level) ts) (end_of_list tails.Terms level ∷ []) x
+        ∙ ap (λ (r : Result Heard LoadFault). r >>= λ z. hear_all true (end_of_list tails.Terms level ∷ []) z) (law v y.0)
         ∙ behind_inside (declare_all v y.0 ts) level (around.terms v) ks w outer
 
 more_lines : (level : ℕ) (ts : Trees) (w : Where) (outer : List Around) (r : Result Listed LoadFault)
-    → ((m : Listed) → hear_all (line_pieces level ts) (heard m None (around.terms w ∷ outer)) ≡ on_again (declare_all w m ts) w outer)
-    → (on_again r w outer >>= λ y. hear_all (end_of_line ∷ line_pieces level ts) y) ≡ on_again (r >>= λ k. declare_all w k ts) w outer
+    → ((m : Listed) → hear_all true (line_pieces level ts) (heard m None (around.terms w ∷ outer)) ≡ on_again (declare_all w m ts) w outer)
+    → (on_again r w outer >>= λ y. hear_all true (end_of_line ∷ line_pieces level ts) y) ≡ on_again (r >>= λ k. declare_all w k ts) w outer
 more_lines level ts w outer (Ok m) law = law m
 more_lines level ts w outer (Err e) law = refl
 
@@ -670,38 +708,38 @@ mutual
   unfolding declare_inside declare declare_all role_of
 
   head_tail : (level : ℕ) (t : Tail) (l : Listed) (h : Head) (ks : List PartKind) (w : Where) (outer : List Around)
-      → hear_all (tail_pieces level t) (heard l (Some h) (around.head ks ∷ around.terms w ∷ outer))
+      → hear_all true (tail_pieces level t) (heard l (Some h) (around.head ks ∷ around.terms w ∷ outer))
       ≡ on_again (entered (enter (with_tail t h) (with_more l (tail_uses (asker h) t)) (body_span t)) t) w outer
   head_tail level empty l h ks w outer =
-      flat_tail empty (enter h l (0, 0)) w outer (λ v m. refl) ∙ same_entered l (with_more l []) h empty w outer (sym (more_none l))
+      flat_tail empty (enter h l (0, 0)) ks w outer (λ v m. refl) ∙ same_entered l (with_more l []) h empty w outer (sym (more_none l))
   head_tail level (bytes xs) l h ks w outer =
-      flat_tail (bytes xs) (enter h l (0, 0)) w outer (λ v m. refl) ∙ same_entered l (with_more l []) h (bytes xs) w outer (sym (more_none l))
+      flat_tail (bytes xs) (enter h l (0, 0)) ks w outer (λ v m. refl) ∙ same_entered l (with_more l []) h (bytes xs) w outer (sym (more_none l))
   head_tail level (body start len) l h ks w outer =
-      flat_tail (body start len) (enter h l (start, len)) w outer (λ v m. refl)
+      flat_tail (body start len) (enter h l (start, len)) ks w outer (λ v m. refl)
       ∙ same_entered l (with_more l []) h (body start len) w outer (sym (more_none l))
   head_tail level (elements ts) l h ks w outer =
       let front = around.elements ∷ around.head ks ∷ around.terms w ∷ outer in
       let m = with_more l (all_uses (asker h) false ts) in
-      heard_on (items level ts) (end_of_list tails.Elements level ∷ []) (heard l (Some h) front) (heard m (Some h) front)
-      (items_asked h level ts l around.elements false (around.head ks ∷ around.terms w ∷ outer) refl (λ x. refl))
-      ∙ flat_tail (elements ts) (enter h m (0, 0)) w outer (λ v m. refl)
+      heard_on true (items level ts) (end_of_list tails.Elements level ∷ []) (heard l (Some h) front) (heard m (Some h) front)
+      (items_asked true h level ts l around.elements false (around.head ks ∷ around.terms w ∷ outer) refl (λ x. refl))
+      ∙ flat_tail (elements ts) (enter h m (0, 0)) ks w outer (λ v m. refl)
   head_tail level (fields us) l h ks w outer =
       let front = around.units ∷ around.head ks ∷ around.terms w ∷ outer in
       let m = with_more l (fields_uses (asker h) us) in
-      heard_on (fields_pieces (deeper level) us) (end_of_list tails.Fields level ∷ []) (heard l (Some h) front) (heard m (Some (with_units us h)) front)
-      (fields_units (deeper level) us l h (around.head ks ∷ around.terms w ∷ outer))
-      ∙ flat_tail (fields us) (enter (with_units us h) m (0, 0)) w outer (λ v m. refl)
+      heard_on true (fields_pieces (deeper level) us) (end_of_list tails.Fields level ∷ []) (heard l (Some h) front) (heard m (Some (with_units us h)) front)
+      (fields_units true (deeper level) us l h (around.head ks ∷ around.terms w ∷ outer))
+      ∙ flat_tail (fields us) (enter (with_units us h) m (0, 0)) ks w outer (λ v m. refl)
   head_tail level (terms ts) l h ks w outer =
       terms_tail level ts ks w outer (enter h l (0, 0)) (λ v m. lines_listed (deeper level) ts m v (around.head ks ∷ around.terms w ∷ outer))
       ∙ same_entered l (with_more l []) h (terms ts) w outer (sym (more_none l))
 
   -- a term of a list
   listed : (level : ℕ) (t : Tree) (l : Listed) (w : Where) (outer : List Around)
-      → hear_all (pieces level t) (heard l None (around.terms w ∷ outer)) ≡ on_again (declare w l t) w outer
+      → hear_all true (pieces level t) (heard l None (around.terms w ∷ outer)) ≡ on_again (declare w l t) w outer
   listed level nothing l w outer = refl
   listed level (named n ts) l w outer =
       let x = heard l None (around.nowhere ∷ around.terms w ∷ outer) in
-      heard_on (items level ts) (end_of_call (tree_count ts) ∷ []) x x (items_nowhere l None level ts (around.terms w ∷ outer))
+      heard_on true (items level ts) (end_of_call (tree_count ts) ∷ []) x x (items_nowhere true l None level ts (around.terms w ∷ outer))
   listed level (op o width ps t) l w outer =
       let row = row_of o in
       let h = around.head_of w row in
@@ -709,23 +747,240 @@ mutual
       let us = parts_uses (asker h) ks ps in
       let behind = behind_head ps h in
       let all = us ++ tail_uses (asker h) t in
-      heard_on (parts_pieces level ps) (end_of_parts row (part_count ps) ∷ tail_pieces level t)
+      heard_on true (parts_pieces level ps) (end_of_parts row (part_count ps) ∷ tail_pieces level t)
       (heard l (Some h) (around.head ks ∷ around.terms w ∷ outer))
       (heard (with_more l us) (Some behind) (around.head (behind_parts ps ks) ∷ around.terms w ∷ outer))
-      (head_parts level ps l h ks (around.terms w ∷ outer))
+      (head_parts true level ps l h ks (around.terms w ∷ outer))
       ∙ head_tail level t (with_more l us) behind (behind_parts ps ks) w outer
       ∙ ap (λ (ask : Name → ℕ → Use). on_again (entered (enter (with_tail t behind) (with_more (with_more l us) (tail_uses ask t)) (body_span t)) t) w outer) (asker_behind ps h)
       ∙ same_entered (with_more (with_more l us) (tail_uses (asker h) t)) (with_more l all) (with_tail t behind) t w outer (more_more l us (tail_uses (asker h) t))
       ∙ ap (λ (x : Head). on_again (entered (enter x (with_more l all) (body_span t)) t) w outer) (head_met w row ps t)
       ∙ ap (λ (r : Result Listed LoadFault). on_again r w outer)
-      (enter_is (role_of o) w (unwrap_or (option_map (λ (r : Row). declares_by r.group) row) false) (begun_behind false ps) (source_behind false None ps) ps t (with_more l all) (source_is ps))
+      (enter_is (role_of o) w (unwrap_or (option_map (λ (r : Row). declares_by r.group) row) false) (begun_behind false ps) (unwrap_or (option_map (λ (r : Row). around.shape_by r.tail) row) shapes.Flat) (source_behind false None ps) ps t (with_more l all) (source_is ps))
 
   -- terms of a list
   pub lines_listed : (level : ℕ) (ts : Trees) (l : Listed) (w : Where) (outer : List Around)
-      → hear_all (line_pieces level ts) (heard l None (around.terms w ∷ outer)) ≡ on_again (declare_all w l ts) w outer
+      → hear_all true (line_pieces level ts) (heard l None (around.terms w ∷ outer)) ≡ on_again (declare_all w l ts) w outer
   lines_listed level no_trees l w outer = refl
   lines_listed level (tree_more t ts) l w outer =
       let x = heard l None (around.terms w ∷ outer) in
-      after (pieces level t) (end_of_line ∷ line_pieces level ts) x
-      ∙ ap (λ (r : Result Heard LoadFault). r >>= λ y. hear_all (end_of_line ∷ line_pieces level ts) y) (listed level t l w outer)
+      after true (pieces level t) (end_of_line ∷ line_pieces level ts) x
+      ∙ ap (λ (r : Result Heard LoadFault). r >>= λ y. hear_all true (end_of_line ∷ line_pieces level ts) y) (listed level t l w outer)
       ∙ more_lines level ts w outer (declare w l t) (λ m. lines_listed level ts m w outer)
+
+-- ---- a term whose code may run
+
+-- no term does anything
+closed_still : (a : Around) (span : ℕ × ℕ) (x : Heard) → closed_by false a span x ≡ Ok (closed x)
+closed_still (around.terms w) span x = refl
+closed_still (around.run w) span x = refl
+closed_still (around.head ks) span x = refl
+closed_still (around.inner ks) span x = refl
+closed_still around.arguments span x = refl
+closed_still around.elements span x = refl
+closed_still around.units span x = refl
+closed_still around.nowhere span x = refl
+
+list_still : (own : Bool) (inside : Result Heard LoadFault) (y : Heard) → cond (own && false) inside (Ok y) ≡ Ok y
+list_still true inside y = refl
+list_still false inside y = refl
+
+catches : (p : Told) (x : Heard) → hear false p x ≡ Ok (catch p x)
+catches told.absent x = refl
+catches (name n count) x = refl
+catches (end_of_call count) x = refl
+catches (told.opcode o row w count) x = refl
+catches (end_of_parts row count) x = refl
+catches told.next x = refl
+catches (told.part p) x = refl
+catches (told.tail t) x = closed_still (top x.around) (body_span t) x
+catches (told.list k) x = list_still (around.is_own_terms (top x.around) k) (around.inside_by x.term x) (catch (told.list k) x)
+catches (end_of_list k level) x = closed_still (top (drop 1 x.around)) (0, 0) (left x)
+catches (told.line level) x = refl
+catches end_of_line x = refl
+catches (told.field u) x = refl
+catches told.link x = refl
+catches end_of_link x = refl
+
+catches_all : (ps : List Told) (x : Heard) → hear_all false ps x ≡ Ok (catch_all ps x)
+catches_all [] x = refl
+catches_all (p ∷ ps) x = ap (λ (r : Result Heard LoadFault). r >>= λ y. hear_all false ps y) (catches p x) ∙ catches_all ps (catch p x)
+
+run_tail : (level : ℕ) (t : Tail) (l : Listed) (h : Head) (ks : List PartKind) (w : Where) (outer : List Around)
+    → hear_all false (tail_pieces level t) (heard l (Some h) (around.head ks ∷ around.run w ∷ outer))
+    ≡ Ok (heard (with_more l (tail_uses (asker h) t)) (Some (with_tail t h)) (around.run w ∷ outer))
+run_tail level empty l h ks w outer = ap (λ (m : Listed). Ok (heard m (Some h) (around.run w ∷ outer))) (sym (more_none l))
+run_tail level (bytes xs) l h ks w outer = ap (λ (m : Listed). Ok (heard m (Some h) (around.run w ∷ outer))) (sym (more_none l))
+run_tail level (body start len) l h ks w outer = ap (λ (m : Listed). Ok (heard m (Some h) (around.run w ∷ outer))) (sym (more_none l))
+run_tail level (terms ts) l h ks w outer =
+    let x = heard l (Some h) (around.nowhere ∷ around.head ks ∷ around.run w ∷ outer) in
+    heard_on false (line_pieces (deeper level) ts) (end_of_list tails.Terms level ∷ []) x x
+    (lines_nowhere false l (Some h) (deeper level) ts (around.head ks ∷ around.run w ∷ outer))
+    ∙ ap (λ (m : Listed). Ok (heard m (Some h) (around.run w ∷ outer))) (sym (more_none l))
+run_tail level (elements ts) l h ks w outer =
+    let front = around.elements ∷ around.head ks ∷ around.run w ∷ outer in
+    heard_on false (items level ts) (end_of_list tails.Elements level ∷ []) (heard l (Some h) front) (heard (with_more l (all_uses (asker h) false ts)) (Some h) front)
+    (items_asked false h level ts l around.elements false (around.head ks ∷ around.run w ∷ outer) refl (λ x. refl))
+run_tail level (fields us) l h ks w outer =
+    let front = around.units ∷ around.head ks ∷ around.run w ∷ outer in
+    heard_on false (fields_pieces (deeper level) us) (end_of_list tails.Fields level ∷ []) (heard l (Some h) front)
+    (heard (with_more l (fields_uses (asker h) us)) (Some (with_units us h)) front)
+    (fields_units false (deeper level) us l h (around.head ks ∷ around.run w ∷ outer))
+
+-- the head of a term at a site
+abbrev pub head_at : Where → Tree → Option Head
+head_at w nothing = None
+head_at w (named n ts) = Some (around.call_at w)
+head_at w (op o width ps t) = Some (with_tail t (behind_head ps (around.head_of w (row_of o))))
+
+run_heard : (level : ℕ) (t : Tree) (l : Listed) (w : Where) (outer : List Around)
+    → hear_all false (pieces level t) (heard l None (around.run w ∷ outer))
+    ≡ Ok (heard (with_more l (term_uses w t)) (head_at w t) (around.run w ∷ outer))
+run_heard level nothing l w outer = ap (λ (m : Listed). Ok (heard m None (around.run w ∷ outer))) (sym (more_none l))
+run_heard level (named n ts) l w outer =
+    let h = around.call_at w in
+    let own = asker h n (tree_count ts) ∷ [] in
+    let m = with_more l own in
+    heard_on false (items level ts) (end_of_call (tree_count ts) ∷ []) (heard m (Some h) (around.arguments ∷ around.run w ∷ outer))
+    (heard (with_more m (all_uses (asker h) true ts)) (Some h) (around.arguments ∷ around.run w ∷ outer))
+    (items_asked false h level ts m around.arguments true (around.run w ∷ outer) refl (λ x. refl))
+    ∙ ap (λ (x : Listed). Ok (heard x (Some h) (around.run w ∷ outer))) (more_more l own (all_uses (asker h) true ts))
+run_heard level (op o width ps t) l w outer =
+    let row = row_of o in
+    let h = around.head_of w row in
+    let ks = kinds_in o in
+    let us = parts_uses (asker h) ks ps in
+    let behind = behind_head ps h in
+    heard_on false (parts_pieces level ps) (end_of_parts row (part_count ps) ∷ tail_pieces level t)
+    (heard l (Some h) (around.head ks ∷ around.run w ∷ outer))
+    (heard (with_more l us) (Some behind) (around.head (behind_parts ps ks) ∷ around.run w ∷ outer))
+    (head_parts false level ps l h ks (around.run w ∷ outer))
+    ∙ run_tail level t (with_more l us) behind (behind_parts ps ks) w outer
+    ∙ ap (λ (ask : Name → ℕ → Use). Ok (heard (with_more (with_more l us) (tail_uses ask t)) (Some (with_tail t behind)) (around.run w ∷ outer))) (asker_behind ps h)
+    ∙ ap (λ (x : Listed). Ok (heard x (Some (with_tail t behind)) (around.run w ∷ outer))) (more_more l us (tail_uses (asker h) t))
+
+pub run_caught : (level : ℕ) (t : Tree) (l : Listed) (w : Where) (outer : List Around)
+    → catch_all (pieces level t) (heard l None (around.run w ∷ outer)) ≡ heard (with_more l (term_uses w t)) (head_at w t) (around.run w ∷ outer)
+run_caught level t l w outer =
+    let same : Ok (catch_all (pieces level t) (heard l None (around.run w ∷ outer)))
+    ≡ the_answer (Ok (heard (with_more l (term_uses w t)) (head_at w t) (around.run w ∷ outer))) =
+    sym (catches_all (pieces level t) (heard l None (around.run w ∷ outer))) ∙ run_heard level t l w outer in cc
+  where
+    the_answer : Result Heard LoadFault → Result Heard LoadFault
+    the_answer r = r
+
+-- ---- what it does by its head
+
+tail_span : (o : ℕ) (w : Option PkgWidth) (ps : Parts) (t : Tail) → unwrap_or (tail_of (op o w ps t)) (0, 0) ≡ body_span t
+tail_span o w ps (body start len) = refl
+tail_span o w ps empty = refl
+tail_span o w ps (terms ts) = refl
+tail_span o w ps (bytes xs) = refl
+tail_span o w ps (elements ts) = refl
+tail_span o w ps (fields us) = refl
+
+-- an opcode is no call
+shaped : (k : Option TailKind) (h : Head) (f : Front) (span : ℕ × ℕ) → enters_by (around.shape_by k) h f span ≡ enters_as h.role h f span
+unfolding enters_by
+shaped (Some tails.Terms) h f span = refl
+shaped (Some tails.Bytes) h f span = refl
+shaped (Some tails.Elements) h f span = refl
+shaped (Some tails.Fields) h f span = refl
+shaped (Some tails.Body) h f span = refl
+shaped None h f span = refl
+
+shape_of_row : (row : Option Row) (h : Head) (f : Front) (span : ℕ × ℕ)
+    → enters_by (unwrap_or (option_map (λ (r : Row). around.shape_by r.tail) row) shapes.Flat) h f span ≡ enters_as h.role h f span
+unfolding enters_by
+shape_of_row None h f span = refl
+shape_of_row (Some r) h f span = shaped r.tail h f span
+
+abbrev no_site : Option Where
+no_site = None
+
+abbrev with_site : Result Listed LoadFault → Result (Listed × Option Where) LoadFault
+with_site r = r >>= λ m. Ok (m, no_site)
+
+abbrev the_span : Option (ℕ × ℕ) → Option (ℕ × ℕ)
+the_span x = x
+
+two_more : (f : Front) (r : Result Listed LoadFault)
+    → (with_site r >>= λ m. Ok (record f { listed = m.0 })) ≡ (r >>= λ m. Ok (record f { listed = m }))
+two_more f (Ok m) = refl
+two_more f (Err e) = refl
+
+run_role : (role : Role) (h : Head) (f : Front) (ps : Parts) (t : Tail) → h.site ≡ f.site → h.source ≡ first_label ps
+    → h.last ≡ last_label None ps → h.byte ≡ last_byte None ps → h.units ≡ field_names t
+    → enters_as role h f (body_span t) ≡ run.enter_as role f ps t
+unfolding enters_as run.enter_as around.enter_as declare_as
+run_role (roles.Declares o) h f ps t site source last flags units = ap (λ n. object_at f n (kind_of o)) last
+run_role roles.Scope h f ps t site source last flags units = ap (scope_at f) last
+run_role roles.Guard h f ps t site source last flags units = refl
+run_role roles.Other h f ps t site source last flags units = refl
+run_role roles.Method h f ps t site source last flags units =
+    two_more f (method_at h.site f.listed h.last (unwrap_or h.byte 0) (body_span t))
+    ∙ (λ i. method_at (site i) f.listed (last i) (unwrap_or (flags i) 0) (body_span t) >>= λ m. Ok (record f { listed = m }))
+run_role roles.Alias h f ps t site source last flags units =
+    two_more f (alias_at h.site f.listed h.source h.last)
+    ∙ (λ i. alias_at (site i) f.listed (source i) (last i) >>= λ m. Ok (record f { listed = m }))
+run_role roles.External h f ps t site source last flags units =
+    two_more f (external_at h.site f.listed h.last (unwrap_or h.byte 0))
+    ∙ (λ i. external_at (site i) f.listed (last i) (unwrap_or (flags i) 0) >>= λ m. Ok (record f { listed = m }))
+run_role roles.Fields h f ps t site source last flags units =
+    two_more f (units_at h.site f.listed h.units)
+    ∙ (λ i. units_at (site i) f.listed (units i) >>= λ m. Ok (record f { listed = m }))
+
+pub run_enters : (f : Front) (t : Tree)
+    → head_enters (head_at f.site t) (run.asked f t) (unwrap_or (tail_of t) (0, 0)) ≡ entered_at f t
+unfolding head_enters enters_by entered_at role_of
+run_enters f nothing = refl
+run_enters f (named n ts) = refl
+run_enters f (op o w ps t) =
+    let row = row_of o in
+    let g = run.asked f (op o w ps t) in
+    let met = head_met f.site row ps t in
+    let h = with_tail t (behind_head ps (around.head_of f.site row)) in
+    ap (λ (s : ℕ × ℕ). enters_by h.shape h g s) (tail_span o w ps t)
+    ∙ ap (λ (s : Shape). enters_by s h g (body_span t)) (ap (λ (x : Head). x.shape) met)
+    ∙ shape_of_row row h g (body_span t)
+    ∙ ap (λ (r : Role). enters_as r h g (body_span t)) (ap (λ (x : Head). x.role) met)
+    ∙ by row refl h g (ap (λ (x : Head). x.site) met) (ap (λ (x : Head). x.source) met ∙ source_is ps)
+    (ap (λ (x : Head). x.last) met) (ap (λ (x : Head). x.byte) met) (ap (λ (x : Head). x.units) met)
+  where
+    by : (row : Option Row) → row ≡ row_of o → (h : Head) (g : Front) → h.site ≡ g.site → h.source ≡ first_label ps
+        → h.last ≡ last_label None ps → h.byte ≡ last_byte None ps → h.units ≡ field_names t
+        → enters_as (unwrap_or (option_map (λ (r : Row). r.role) row) roles.Other) h g (body_span t) ≡ run.enter_as (role_of o) g ps t
+    by row e h g site source last flags units =
+        ap (λ (r : Option Row). enters_as (unwrap_or (option_map (λ (r : Row). r.role) r) roles.Other) h g (body_span t)) e
+        ∙ run_role (role_of o) h g ps t site source last flags units
+
+-- ---- and whether terms stand inside it
+
+block_row : (row : Option Row) → around.shape_is_block (unwrap_or (option_map (λ (r : Row). around.shape_by r.tail) row) shapes.Flat)
+    ≡ unwrap_or (option_map (λ (r : Row). has_terms r.tail) row) false
+block_row None = refl
+block_row (Some r) = by r.tail
+  where
+    by : (k : Option TailKind) → around.shape_is_block (around.shape_by k) ≡ has_terms k
+    by (Some tails.Terms) = refl
+    by (Some tails.Bytes) = refl
+    by (Some tails.Elements) = refl
+    by (Some tails.Fields) = refl
+    by (Some tails.Body) = refl
+    by None = refl
+
+none_else : (b : Bool) → cond b (the_span None) None ≡ None
+none_else true = refl
+none_else false = refl
+
+pub run_inside : (w : Where) (t : Tree) → cond (around.is_block (head_at w t)) (tail_of t) None ≡ span_inside t
+run_inside w nothing = refl
+run_inside w (named n ts) = refl
+run_inside w (op o width ps (body start len)) =
+    ap (λ (b : Bool). cond b (the_span (Some (start, len))) None)
+    (ap around.shape_is_block (ap (λ (x : Head). x.shape) (head_met w (row_of o) ps (body start len))) ∙ block_row (row_of o))
+run_inside w (op o width ps empty) = none_else (around.is_block (head_at w (op o width ps empty)))
+run_inside w (op o width ps (terms ts)) = none_else (around.is_block (head_at w (op o width ps (terms ts))))
+run_inside w (op o width ps (bytes xs)) = none_else (around.is_block (head_at w (op o width ps (bytes xs))))
+run_inside w (op o width ps (elements ts)) = none_else (around.is_block (head_at w (op o width ps (elements ts))))
+run_inside w (op o width ps (fields us)) = none_else (around.is_block (head_at w (op o width ps (fields us))))

@@ -18,6 +18,7 @@ pub mod RunSpans
 pub mod Ran
 pub mod Runs
 mod Openings
+pub mod Fronts
 pub mod Behind
 pub mod Founds
 pub mod Strict

@@ -1,21 +1,17 @@
 -- The walk over a table whose code outside methods may run, one term after the other: what was found before, and then
 -- what is still read, is all that is read.
-use Rattle.std.proofs.Common.{◌≡◌, ℕ, zero, suc, ◌+◌, ◌-◌, ◌≤◌, ◌<◌, true, false, cond, List, [], ◌∷◌, ◌++◌, Result, Ok}
+use Rattle.std.proofs.Common.{◌≡◌, ℕ, zero, suc, ◌+◌, ◌-◌, ◌≤◌, ◌<◌, true, false, cond, List, Result, Ok}
 use Rattle.std.proofs.Common.{Err, refl, sym, ap, subst}
-use Rattle.std.proofs.Common.{◌∙◌, arith, nat_le, Bool, inl, inr, ◌⊎◌, Option, Some, None, IsTrue}
-use Rattle.std.proofs.lemmas.Bool.Decides.{nat_tests}
+use Rattle.std.proofs.Common.{◌∙◌, arith, Bool, inl, inr, ◌⊎◌, Option, Some, None, IsTrue}
 use Rattle.aml_code.specs.Lawful.{next_position}
 use Rattle.aml_code.specs.Faults.{IsEnd}
-use Rattle.aml_code.specs.Tree.{Tree, op, Trees, no_trees, tree_more, Parts, body}
+use Rattle.aml_code.specs.Tree.{Tree, op, Trees, Parts, body}
 use Rattle.aml_code.specs.declared.packages.PkgWidth.{PkgWidth}
-use Rattle.aml_code.specs.View.{node_view, nodes_view}
 use Rattle.aml_code.specs.declared.rows.Position.{Position}
-use Rattle.aml_code.specs.declared.tree.Node.{Node}
 use Rattle.aml_parse.proofs.Forward.{is_run, runs_on, Room, room_inside, level_there}
 use Rattle.aml_parse.proofs.OneWay.{some_there}
 use Rattle.aml_parse.specs.Reading.{step_at}
 use Rattle.aml_parse.specs.Running.{in_step, SpanReader, is_block, opened_at, run_term_at, run_terms_at, run_span_at}
-use Rattle.aml_parse.proofs.Loops.{onto, nodes_found}
 use Rattle.aml_names.specs.declared.faults.CodeFault.{CodeFault}
 use Rattle.aml_names.specs.declared.faults.CodeFault.TheVariants as codes
 use Rattle.aml_names.specs.declared.names.Name.{Name}
@@ -38,87 +34,12 @@ use Rattle.aml_load.specs.Tables.{Fails}
 abbrev Answer : Type 0
 Answer = Result (Trees × Front) LoadFault
 
-abbrev Whole : Type 0
-Whole = (Tree × Tree) × (ℕ × Front)
-
-abbrev pub found_then : List Node → Answer → Answer
-found_then front read = read >>= λ (x : Trees × Front). Ok (onto node_view tree_more front x.0, x.1)
-
-onto_more : (front : List Node) (x : Node) (back : Trees)
-    → onto node_view tree_more (front ++ x ∷ []) back ≡ onto node_view tree_more front (tree_more (node_view x) back)
-onto_more [] x back = refl
-onto_more (y ∷ front) x back = ap (tree_more (node_view y)) (onto_more front x back)
-
 module _ (t : ℕ) (code : List ℕ) where
   pub span_is : (levels : ℕ) (p : Position) (at end : ℕ) (f : Front)
       → run_span_at (run_names t) code levels p at end f ≡ run_terms_at (run_names t) code levels (below levels t code) (end - at) p at end f
   unfolding run_span_at
   span_is zero p at end f = refl
   span_is (suc levels) p at end f = refl
-
-  module _ (levels : ℕ) (read : SpanReader (run_names t) code) (front : List Node) (total : Answer) (p : Position) (at end : ℕ) (f : Front) where
-    abbrev read_on : ℕ → Answer
-    read_on n = run_terms_at (run_names t) code levels read n p at end f
-
-    abbrev more_to : Whole → Trees × Front → Answer
-    more_to x y = Ok (tree_more x.0.1 y.0, y.1)
-
-    abbrev behind : ℕ → Whole → Answer
-    behind n x = run_terms_at (run_names t) code levels read n (next_position p x.0.0) x.1.0 end x.1.1 >>= more_to x
-
-    ended : (n : ℕ) → end ≤ at → read_on n ≡ Ok (no_trees, f)
-    unfolding run_terms_at
-    ended zero le = refl
-    ended (suc n) le =
-        let done : nat_le end at ≡ true = grind (arith, nat_tests) in
-        ap (λ (b : Bool). cond b (Ok (no_trees, f)) (run_term_at (run_names t) code levels read p at end f >>= behind n)) done
-
-    starts : (n : ℕ) → at < end → read_on (suc n) ≡ (run_term_at (run_names t) code levels read p at end f >>= behind n)
-    unfolding run_terms_at
-    starts n less =
-        let on : nat_le end at ≡ false = grind (arith, nat_tests) in
-        ap (λ (b : Bool). cond b (Ok (no_trees, f)) (run_term_at (run_names t) code levels read p at end f >>= behind n)) on
-
-    -- nothing is left
-    pub done : (n : ℕ) → end ≤ at → found_then front (read_on n) ≡ total → total ≡ Ok (nodes_view front, f)
-    done n le so_far =
-        sym so_far ∙ ap (found_then front) (ended n le) ∙ ap (λ (ts : Trees). Ok (ts, f)) (nodes_found front)
-
-    -- the next term stops
-    pub stops : (n k : ℕ) (e : LoadFault) → n ≡ suc k → at < end
-        → run_term_at (run_names t) code levels read p at end f ≡ Err e
-        → found_then front (read_on n) ≡ total → total ≡ Err e
-    stops n k e is less fails so_far =
-        sym so_far ∙ ap (λ (m : ℕ). found_then front (read_on m)) is ∙ ap (found_then front) (starts k less)
-        ∙ ap (λ (r : Result Whole LoadFault). found_then front (r >>= behind k)) fails
-
-    regroup : (x : Node) (head : Tree) (at2 : ℕ) (g : Front) (r : Answer)
-        → found_then front (r >>= more_to ((head, node_view x), (at2, g))) ≡ found_then (front ++ x ∷ []) r
-    regroup x head at2 g (Ok y) = ap (λ (all : Trees). Ok (all, y.1)) (sym (onto_more front x y.0))
-    regroup x head at2 g (Err e) = refl
-
-    -- the next term is read
-    pub goes_on : (n k : ℕ) (x : Node) (head : Tree) (at2 : ℕ) (g : Front) → n ≡ suc k → at < end
-        → run_term_at (run_names t) code levels read p at end f ≡ Ok ((head, node_view x), (at2, g))
-        → found_then front (read_on n) ≡ total
-        → found_then (front ++ x ∷ []) (run_terms_at (run_names t) code levels read k (next_position p head) at2 end g) ≡ total
-    goes_on n k x head at2 g is less reads so_far =
-        sym (regroup x head at2 g (run_terms_at (run_names t) code levels read k (next_position p head) at2 end g))
-        ∙ sym (ap (λ (m : ℕ). found_then front (read_on m)) is ∙ ap (found_then front) (starts k less)
-        ∙ ap (λ (r : Result Whole LoadFault). found_then front (r >>= behind k)) reads)
-        ∙ so_far
-
-    -- what the next term failed by, all fail by
-    pub fails : (n k : ℕ) (e : LoadFault) → n ≡ suc k → at < end
-        → Fails e (run_term_at (run_names t) code levels read p at end f)
-        → found_then front (read_on n) ≡ total → Fails e total
-    fails n k e is less (inl want) so_far = inl want
-    fails n k e is less (inr h) so_far = inr (stops n k e is less h so_far)
-
-  -- nothing was found yet
-  pub found_none : (r : Answer) → found_then [] r ≡ r
-  found_none (Ok x) = refl
-  found_none (Err e) = refl
 
   pub below_is : (levels : ℕ) (p : Position) (at end : ℕ) (f : Front) → 0 < levels
       → below levels t code p at end f ≡ run_span_at (run_names t) code (levels - 1) p at end f
@@ -228,6 +149,21 @@ module _ (site : Where) (code : List ℕ) (r : Rest) where
       walk_is l m inner x reads enters
       ∙ ap (λ (s : Result (Tree × Front) LoadFault). s >>= whole l x)
       (subst (λ (n : ℕ). opened_at (run_names n) code (below r.levels n code) (is_block x.0) x.0 (front_at inner m) ≡ Ok (t, front_at inner k)) same opens)
+
+  -- a term that can't be read, or can't do what it does
+  pub head_fails : (l : Listed) (e : LoadFault)
+      → Fails e (in_step (run_names site.table) code (step_at (counts_in (front_at site l)) r.levels r.position code r.at r.end)
+      >>= λ (x : Tree × ℕ). entered_at (front_at site l) x.0)
+      → Fails e (walk l)
+  unfolding run_term_at
+  head_fails l e (inl want) = inl want
+  head_fails l e (inr h) =
+      inr (by (in_step (run_names site.table) code (step_at (counts_in (front_at site l)) r.levels r.position code r.at r.end)) h)
+    where
+      by : (s : Result (Tree × ℕ) LoadFault) → (s >>= λ (x : Tree × ℕ). entered_at (front_at site l) x.0) ≡ Err e
+          → (s >>= λ (y : Tree × ℕ). entered_at (front_at site l) y.0 >>= in_head l y) ≡ Err e
+      by (Ok x) h = ap (λ (q : Result Front LoadFault). q >>= in_head l x) h
+      by (Err d) h = let same : d ≡ e = cc in ap (λ (f : LoadFault). Err f) same
 
   pub term_fails : (l m : Listed) (inner : Where) (x : Tree × ℕ) (e : LoadFault)
       → in_step (run_names site.table) code (step_at (counts_in (front_at site l)) r.levels r.position code r.at r.end) ≡ Ok x

@@ -12,9 +12,9 @@ use Rattle.aml_load.specs.Hearing.{Around}
 use Rattle.aml_load.specs.Hearing as Hearing
 use Rattle.aml_load.specs.HearingViews.{around_view, head_view, stack_view, IsNumbered, IsHeadNumbered}
 use Rattle.aml_load.specs.Walking.{KeepsPaths}
-use Rattle.aml_load.specs.declared.hearing.Around.{Around as KeptAround}
-use Rattle.aml_load.specs.declared.hearing.Around.TheVariants as kept
-use Rattle.aml_load.specs.declared.hearing.Head.{Head as KeptHead}
+use Rattle.aml_load.specs.declared.ears.Around.{Around as KeptAround}
+use Rattle.aml_load.specs.declared.ears.Around.TheVariants as kept
+use Rattle.aml_load.specs.declared.ears.Head.{Head as KeptHead}
 use Rattle.aml_load.proofs.Inside.{same_site, still_among}
 
 module _ (k : Known) where
@@ -35,6 +35,7 @@ module _ (k : Known) where
 module _ (old new : Known) (keeps : KeepsPaths old new) where
   same_around : (x : KeptAround) → IsNumbered old x → around_view new x ≡ around_view old x
   same_around (kept.Terms s) own = ap Hearing.terms (same_site old new keeps s own)
+  same_around (kept.Run s) own = ap Hearing.run (same_site old new keeps s own)
   same_around (kept.Head o told) own = refl
   same_around (kept.Inner o told) own = refl
   same_around kept.Arguments own = refl
@@ -44,6 +45,7 @@ module _ (old new : Known) (keeps : KeepsPaths old new) where
 
   still_around : (x : KeptAround) → IsNumbered old x → IsNumbered new x
   still_around (kept.Terms s) own = still_among old new keeps s.scope own
+  still_around (kept.Run s) own = still_among old new keeps s.scope own
   still_around (kept.Head o told) own = tt
   still_around (kept.Inner o told) own = tt
   still_around kept.Arguments own = tt

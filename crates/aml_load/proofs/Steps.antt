@@ -1,29 +1,67 @@
 -- One step of what is heard, and one that declares nothing behind it.
-use Rattle.std.proofs.Common.{◌≡◌, Ok, Result, sym, ap, subst, inl, inr, ◌∙◌}
+use Rattle.std.proofs.Common.{◌≡◌, Ok, Err, OnOk, IfOk, IfErr, Result, sym, ap, subst, inl, inr, ◌∙◌}
+use Rattle.aml_namespace.specs.Known.{Known}
 use Rattle.aml_load.specs.Declaring.{◌>>=◌, Listed}
 use Rattle.aml_load.specs.Hearing.{Heard}
-use Rattle.aml_load.specs.HearingViews.{Goes, Hears, StopsBy, AreNumbered, heard_by}
+use Rattle.aml_load.specs.HearingViews.{Goes, Hears, StopsBy, AreNumbered, heard_by, heard_in}
 use Rattle.aml_load.specs.Tables.{Fails}
-use Rattle.aml_load.specs.Walking.{Holds}
+use Rattle.aml_load.specs.declared.ears.Ears.{Ears}
 use Rattle.aml_load.specs.declared.faults.LoadFault.{LoadFault}
 use Rattle.aml_load.specs.declared.hearing.Hearing.{Hearing}
 use Rattle.aml_load.specs.declared.walking.Progress.{Progress}
 
+abbrev pub hearing : Progress → Ears → Hearing
+hearing p e = record { progress = p; ears = e }
+
+-- one step of what is heard alone, and another
+pub goes_then : (k : Known) (old mid new : Ears) (first next : Heard → Heard) → Goes k old mid first → Goes k mid new next
+    → Goes k old new (λ x. next (first x))
+goes_then k old mid new first next one two = record {
+  heard = λ l. two.heard l ∙ ap next (one.heard l);
+  numbered = λ own. two.numbered (one.numbered own);
+}
+
+pub goes_as : (k : Known) (old new : Ears) (first step : Heard → Heard)
+    → ((l : Listed) → step (heard_in k l old) ≡ first (heard_in k l old)) → Goes k old new first → Goes k old new step
+goes_as k old new first step same one = record {
+  heard = λ l. one.heard l ∙ sym (same l);
+  numbered = one.numbered;
+}
+
+pub on_ok_by : {X E P Q : Type 0} (r : Result X E) → (P → Q) → OnOk r P → OnOk r Q
+on_ok_by (Ok x) f p = f p
+on_ok_by (Err e) f p = p
+
+pub if_ok_by : {X E : Type 0} {P Q : X → Type 0} (r : Result X E) → ((x : X) → P x → Q x) → IfOk r P → IfOk r Q
+if_ok_by (Ok x) f p = f x p
+if_ok_by (Err e) f p = p
+
+pub if_err_by : {X E : Type 0} {P Q : E → Type 0} (r : Result X E) → ((e : E) → P e → Q e) → IfErr r P → IfErr r Q
+if_err_by (Ok x) f p = p
+if_err_by (Err e) f p = f e p
+
+-- two clauses of one call, of whatever is held
+pub of_both : {T E : Type 0} (r : Result T E) {Held New : Listed → Type 0} {A B : Type 0}
+    → ((l : Listed) → Held l → OnOk r A) → ((l : Listed) → Held l → OnOk r B) → ((l : Listed) → Held l → A → B → New l)
+    → OnOk r ((l : Listed) → Held l → New l)
+of_both (Ok x) a b new = λ l h. new l h (a l h) (b l h)
+of_both (Err e) a b new = tt
+
 -- a step that declares nothing
-pub goes_heard : (old new : Hearing) (step : Heard → Heard) → Goes old new step → AreNumbered old.progress.space old
-    → Hears old new (λ x. Ok (step x))
-goes_heard old new step goes own = record {
-  heard = λ l h. (l, subst (λ (p : Progress). Holds p l) (sym goes.progress) h, ap Ok (sym (goes.heard l)));
+pub goes_heard : (p : Progress) (old new : Ears) (step : Heard → Heard) → Goes p.space old new step → AreNumbered p.space old
+    → Hears (hearing p old) (hearing p new) (λ x. Ok (step x))
+goes_heard p old new step goes own = record {
+  heard = λ l h. (l, h, ap Ok (sym (goes.heard l)));
   numbered = goes.numbered own;
 }
 
-pub goes_on : (old mid new : Hearing) (first : Heard → Result Heard LoadFault) (step : Heard → Heard)
-    → Hears old mid first → Goes mid new step → Hears old new (λ x. first x >>= λ y. Ok (step y))
-goes_on old mid new first step one two = record {
+pub goes_on : (old : Hearing) (p : Progress) (mid new : Ears) (first : Heard → Result Heard LoadFault) (step : Heard → Heard)
+    → Hears old (hearing p mid) first → Goes p.space mid new step → Hears old (hearing p new) (λ x. first x >>= λ y. Ok (step y))
+goes_on old p mid new first step one two = record {
   heard = λ l h.
       let a = one.heard l h in (
         a.0,
-        subst (λ (p : Progress). Holds p a.0) (sym two.progress) a.1,
+        a.1,
         ap (λ (r : Result Heard LoadFault). r >>= λ y. Ok (step y)) a.2 ∙ ap Ok (sym (two.heard a.0)),
       );
   numbered = two.numbered one.numbered;
@@ -38,19 +76,16 @@ heard_as old new first step same one = record {
 }
 
 -- a step behind one that declares nothing
-pub hears_on : (old mid new : Hearing) (first : Heard → Heard) (step : Heard → Result Heard LoadFault)
-    → Goes old mid first → Hears mid new step → Hears old new (λ x. step (first x))
-hears_on old mid new first step one two = record {
-  heard = λ l h.
-      let a = two.heard l (subst (λ (p : Progress). Holds p l) (sym one.progress) h) in
-      (a.0, a.1, ap step (sym (one.heard l)) ∙ a.2);
+pub hears_on : (p : Progress) (old mid : Ears) (new : Hearing) (first : Heard → Heard) (step : Heard → Result Heard LoadFault)
+    → Goes p.space old mid first → Hears (hearing p mid) new step → Hears (hearing p old) new (λ x. step (first x))
+hears_on p old mid new first step one two = record {
+  heard = λ l h. let a = two.heard l h in (a.0, a.1, ap step (sym (one.heard l)) ∙ a.2);
   numbered = two.numbered;
 }
 
-pub stops_on : (old mid : Hearing) (first : Heard → Heard) (step : Heard → Result Heard LoadFault) (e : LoadFault)
-    → Goes old mid first → StopsBy mid step e → StopsBy old (λ x. step (first x)) e
-stops_on old mid first step e one two l h =
-    subst (λ (x : Heard). Fails e (step x)) (one.heard l) (two l (subst (λ (p : Progress). Holds p l) (sym one.progress) h))
+pub stops_on : (p : Progress) (old mid : Ears) (first : Heard → Heard) (step : Heard → Result Heard LoadFault) (e : LoadFault)
+    → Goes p.space old mid first → StopsBy (hearing p mid) step e → StopsBy (hearing p old) (λ x. step (first x)) e
+stops_on p old mid first step e one two l h = subst (λ (x : Heard). Fails e (step x)) (one.heard l) (two l h)
 
 -- what fails fails, whatever comes behind it
 pub fails_on : (e : LoadFault) (r : Result Heard LoadFault) (next : Heard → Result Heard LoadFault) → Fails e r → Fails e (r >>= next)

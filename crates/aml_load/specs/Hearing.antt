@@ -1,6 +1,6 @@
--- A stepping stone: what the pieces of a table's terms declare, one after the other as they are told (ACPI 6.5, 5.3 and
--- 20.2.5), as `Declaring` says it of the terms.
-use Rattle.std.specs.Prelude.{ℕ, Bool, true, false, cond, List, [], ◌∷◌, ◌++◌, Option, Some, None, Result, Ok, drop}
+-- A stepping stone: what is heard of a table's terms, one piece after the other as they are told, and what they declare
+-- by it (ACPI 6.5, 5.3 and 20.2.5), as `Declaring` and `Running` say it of the terms.
+use Rattle.std.specs.Prelude.{ℕ, Bool, true, false, cond, ◌&&◌, List, [], ◌∷◌, ◌++◌, Option, Some, None, Result, Ok, drop}
 use Rattle.std.specs.Option.{unwrap_or, option_map}
 use Rattle.aml_names.specs.declared.names.Name.{Name}
 use Rattle.aml_code.specs.Lawful.{unit_names}
@@ -12,6 +12,8 @@ use Rattle.aml_code.specs.declared.rows.Role.{Role}
 use Rattle.aml_code.specs.declared.rows.Role.TheVariants as roles
 use Rattle.aml_code.specs.declared.rows.TailKind.{TailKind}
 use Rattle.aml_code.specs.declared.rows.TailKind.TheVariants as tails
+use Rattle.aml_load.specs.declared.ears.Shape.{Shape}
+use Rattle.aml_load.specs.declared.ears.Shape.TheVariants as shapes
 use Rattle.aml_space.specs.declared.faults.SpaceFault.TheVariants as faults
 use Rattle.aml_load.specs.declared.faults.LoadFault.{LoadFault}
 use Rattle.aml_load.specs.Declaring.{◌>>=◌, Listed, Use, use_of, is_argument, kinds_in, under, body_span, place_at, lead_at, entry_at}
@@ -19,12 +21,13 @@ use Rattle.aml_load.specs.Declaring.{method_at, alias_at, external_at, units_at}
 use Rattle.aml_namespace.specs.Kinds.{Kind}
 use Rattle.aml_load.specs.Loading.{Where, declares_by, kind_of, plain_entry}
 
--- What was told so far of a term of a list: where it stands, whether it is a declaration, and its role; whether a part
--- was told, and the first one, if that is a name; the last name and the last byte among the parts; and the named units
--- behind them.
+-- What was told so far of a term of a list: where it stands, whether it is a declaration, its shape and its role;
+-- whether a part was told, and the first one, if that is a name; the last name and the last byte among the parts; and
+-- the named units behind them.
 pub record Head : Type 0 where
   pub site : Where
   pub declaring : Bool
+  pub shape : Shape
   pub role : Role
   pub begun : Bool
   pub source : Option Name
@@ -32,11 +35,12 @@ pub record Head : Type 0 where
   pub byte : Option ℕ
   pub units : List Name
 
--- What stands around a piece: a list of terms at a site; the parts of a term of such a list, or of another opcode, of
--- which these kinds are still to come; the arguments of a name; elements; the units of a term of a list; or what
--- declares nothing and asks nothing.
+-- What stands around a piece: a list of terms at a site; a term there whose code may run; the parts of such a term, or of
+-- another opcode, of which these kinds are still to come; the arguments of a name; elements; the units of a term of a
+-- list; or what declares nothing and asks nothing.
 pub data Around : Type 0 where
   terms : Where → Around
+  run : Where → Around
   head : List PartKind → Around
   inner : List PartKind → Around
   arguments : Around
@@ -52,10 +56,16 @@ pub record Heard : Type 0 where
 
 -- ---- The head of a term.
 
+-- whether terms stand inside
+abbrev pub shape_by : Option TailKind → Shape
+shape_by (Some tails.Terms) = shapes.Block
+shape_by _ = shapes.Flat
+
 abbrev pub head_of : Where → Option Row → Head
 head_of site row = record {
   site = site;
   declaring = unwrap_or (option_map (λ (r : Row). declares_by r.group) row) false;
+  shape = unwrap_or (option_map (λ (r : Row). shape_by r.tail) row) shapes.Flat;
   role = unwrap_or (option_map (λ (r : Row). r.role) row) roles.Other;
   begun = false;
   source = None;
@@ -63,6 +73,19 @@ head_of site row = record {
   byte = None;
   units = [];
 }
+
+-- a name that is a term
+abbrev pub call_at : Where → Head
+call_at site = record (head_of site None) { shape = shapes.Call }
+
+-- whether terms stand inside a term
+abbrev pub shape_is_block : Shape → Bool
+shape_is_block shapes.Block = true
+shape_is_block _ = false
+
+abbrev pub is_block : Option Head → Bool
+is_block None = false
+is_block (Some h) = shape_is_block h.shape
 
 -- behind a part of a head
 abbrev pub with_part : Part → Head → Head
@@ -117,6 +140,7 @@ asks_of (k ∷ ks) = Some (is_argument k)
 
 abbrev pub asks : Around → Option Bool
 asks (terms site) = None
+asks (run site) = None
 asks (head ks) = asks_of ks
 asks (inner ks) = asks_of ks
 asks arguments = Some true
@@ -173,12 +197,20 @@ asked_by (Some h) (Some true) n count x =
     record x { listed = with_more x.listed (use_of h.site h.declaring n count ∷ []) }
 asked_by _ _ n count x = x
 
-abbrev pub asked : Name → ℕ → Heard → Heard
-asked n count x = asked_by x.term (asks (top x.around)) n count x
+-- a name, by what stands around it
+abbrev pub named_by : Around → Name → ℕ → Heard → Heard
+named_by (run site) n count x = record {
+  listed = with_more x.listed (use_of site false n count ∷ []);
+  term = Some (call_at site);
+  around = arguments ∷ x.around;
+}
+named_by a n count x = opening (inside a arguments) (asked_by x.term (asks a) n count x)
 
 -- an opcode, by what stands around it
 abbrev pub opened_by : Around → ℕ → Option Row → Heard → Heard
 opened_by (terms site) o row x =
+    record { listed = x.listed; term = Some (head_of site row); around = head (kinds_in o) ∷ x.around }
+opened_by (run site) o row x =
     record { listed = x.listed; term = Some (head_of site row); around = head (kinds_in o) ∷ x.around }
 opened_by a o row x = opening (inside a (inner (kinds_in o))) x
 
@@ -190,11 +222,15 @@ done_by (Some h) span x = do
   Ok (record x { listed = y.0; term = None })
 
 -- behind the tail of an opcode
-abbrev pub closed_by : Around → ℕ × ℕ → Heard → Result Heard LoadFault
-closed_by (head ks) span x = do
-  y ← done_by x.term span (left x)
-  Ok (behind_term y)
-closed_by a span x = Ok (behind_term (left x))
+abbrev pub closed : Heard → Heard
+closed x = behind_term (left x)
+
+-- the same, where a term of a list does then what it does, if it is to
+abbrev pub closed_by : Bool → Around → ℕ × ℕ → Heard → Result Heard LoadFault
+closed_by does (head ks) span x = do
+  y ← cond does (done_by x.term span x) (Ok x)
+  Ok (closed y)
+closed_by does a span x = Ok (closed x)
 
 -- the terms inside a term
 abbrev pub entered_by : Option Where → Around
@@ -214,13 +250,13 @@ is_own_terms _ k = false
 
 abbrev pub list_in : Around → TailKind → Around
 list_in (head ks) tails.Fields = units
-list_in (head ks) k = elements
-list_in (inner ks) tails.Terms = nowhere
-list_in (inner ks) k = elements
+list_in (head ks) tails.Elements = elements
+list_in (inner ks) tails.Fields = elements
+list_in (inner ks) tails.Elements = elements
 list_in _ k = nowhere
 
-abbrev pub list_by : Around → TailKind → Heard → Result Heard LoadFault
-list_by a k x = cond (is_own_terms a k) (inside_by x.term x) (Ok (opening (list_in a k) x))
+abbrev pub list_by : Bool → Around → TailKind → Heard → Result Heard LoadFault
+list_by does a k x = cond (is_own_terms a k && does) (inside_by x.term x) (Ok (opening (list_in a k) x))
 
 -- an element of a field list
 abbrev pub with_unit : Field → Head → Head
@@ -230,25 +266,37 @@ abbrev pub unit_by : Around → Field → Heard → Heard
 unit_by units u x = record x { term = option_map (with_unit u) x.term }
 unit_by a u x = x
 
--- what is heard behind a piece, or the fault at which the load stops
-abbrev pub hear : Told → Heard → Result Heard LoadFault
-hear absent x = Ok (behind_term x)
-hear (name n count) x = Ok (opening (inside (top x.around) arguments) (asked n count x))
-hear (end_of_call count) x = Ok (behind_term (left x))
-hear (opcode o row w count) x = Ok (opened_by (top x.around) o row x)
-hear (part p) x = Ok (behind_part (noted p) x)
-hear (tail t) x = closed_by (top x.around) (body_span t) x
-hear (list k) x = list_by (top x.around) k x
-hear (end_of_list k level) x = closed_by (top (drop 1 x.around)) (0, 0) (left x)
-hear (field u) x = Ok (unit_by (top x.around) u x)
-hear _ x = Ok x
+-- what is heard behind a piece, where no term does anything
+abbrev pub catch : Told → Heard → Heard
+catch absent x = behind_term x
+catch (name n count) x = named_by (top x.around) n count x
+catch (end_of_call count) x = closed x
+catch (opcode o row w count) x = opened_by (top x.around) o row x
+catch (part p) x = behind_part (noted p) x
+catch (tail t) x = closed x
+catch (list k) x = opening (list_in (top x.around) k) x
+catch (end_of_list k level) x = closed (left x)
+catch (field u) x = unit_by (top x.around) u x
+catch _ x = x
+
+-- The same where each term of a list does what it does, if it is to: behind its tail, or in front of the terms inside it.
+-- The fault is the one at which the load stops.
+abbrev pub hear : Bool → Told → Heard → Result Heard LoadFault
+hear does (tail t) x = closed_by does (top x.around) (body_span t) x
+hear does (list k) x = list_by does (top x.around) k x
+hear does (end_of_list k level) x = closed_by does (top (drop 1 x.around)) (0, 0) (left x)
+hear does p x = Ok (catch p x)
 
 -- pieces, one after the other
-abbrev pub hear_all : List Told → Heard → Result Heard LoadFault
-hear_all [] x = Ok x
-hear_all (p ∷ ps) x = do
-  y ← hear p x
-  hear_all ps y
+abbrev pub catch_all : List Told → Heard → Heard
+catch_all [] x = x
+catch_all (p ∷ ps) x = catch_all ps (catch p x)
+
+abbrev pub hear_all : Bool → List Told → Heard → Result Heard LoadFault
+hear_all does [] x = Ok x
+hear_all does (p ∷ ps) x = do
+  y ← hear does p x
+  hear_all does ps y
 
 -- what is heard behind the terms of a list, by what they declare
 abbrev pub behind_terms : Where → List Around → Result Listed LoadFault → Result Heard LoadFault

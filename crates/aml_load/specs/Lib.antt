@@ -15,4 +15,5 @@ pub mod Standings
 pub mod StandingLaws
 pub mod Kept
 pub mod Opening
+pub mod Front
 pub mod Run

@@ -14,6 +14,11 @@ abbrev pub span_of : Told → Option (ℕ × ℕ)
 span_of (tail (body start len)) = Some (start, len)
 span_of _ = None
 
+-- the span of a term's tail, if that is only a span
+abbrev pub tail_of : Tree → Option (ℕ × ℕ)
+tail_of (op o w ps (body start len)) = Some (start, len)
+tail_of _ = None
+
 -- what is held back
 abbrev pub held_pieces : Option (ℕ × ℕ) → List Told
 held_pieces None = []

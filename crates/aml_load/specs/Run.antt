@@ -4,15 +4,19 @@ use Rattle.std.specs.Prelude.{◌≡◌, ◌≤◌, ◌<◌, ℕ, List, [], Ok, 
 use Rattle.aml_code.specs.Lawful.{next_position}
 use Rattle.aml_code.specs.Tree.{Tree, Trees}
 use Rattle.aml_parse.proofs.Forward.{is_run}
-use Rattle.aml_parse.specs.Running.{is_block, opened_at, run_term_at, run_span_at, run_table_at}
-use Rattle.aml_load.specs.Declaring.{Listed}
+use Rattle.aml_parse.specs.Reading.{step_at}
+use Rattle.aml_parse.specs.Running.{in_step, is_block, opened_at, run_term_at, run_span_at, run_table_at}
+use Rattle.aml_load.specs.Declaring.{◌>>=◌, Listed}
 use Rattle.aml_load.specs.Loading.{Where}
-use Rattle.aml_load.specs.Running.{run_names, table_front}
-use Rattle.aml_load.specs.Runner.{below, front_at}
+use Rattle.aml_load.specs.Running.{counts_in, entered_at, run_names, table_front}
+use Rattle.aml_load.specs.Runner.{below, front_at, span_inside, IsThere}
+use Rattle.aml_load.specs.Opening.{tail_of}
 use Rattle.aml_load.specs.Tables.{Fails}
-use Rattle.aml_load.specs.Walking.{at_site, Holds}
+use Rattle.aml_load.specs.Walking.{at_site, Holds, IsInside}
 use Rattle.aml_load.specs.declared.faults.LoadFault.{LoadFault}
-use Rattle.aml_load.specs.declared.run.Behind.{Behind}
+use Rattle.aml_parse.specs.declared.step.Behind.{Behind}
+use Rattle.aml_load.specs.declared.opening.Opened.{Opened}
+use Rattle.aml_load.specs.declared.run.Front.{Front as Told}
 use Rattle.aml_load.specs.declared.runner.Rest.{Rest}
 use Rattle.aml_load.specs.declared.uses.Site.{Site}
 use Rattle.aml_load.specs.declared.walking.Progress.{Progress}
@@ -20,6 +24,39 @@ use Rattle.aml_load.specs.declared.walking.Progress.{Progress}
 -- what is behind a term of a span
 abbrev pub IsBehind : Rest → Behind → Type 0
 IsBehind r x = (r.at < x.at) × (x.at ≤ r.end) × IsTrue (is_run x.position)
+
+-- the term that stands there is this one, whatever the progress holds, and so its span goes on behind it
+pub record StepTo (old : Progress) (s : Site) (r : Rest) (code : List ℕ) (x : Opened) (t : Tree) : Type 0 where
+  pub there : IsThere code r t x.behind.at
+  pub reads : (l : Listed) → Holds old l → in_step (run_names s.table) code
+      (step_at (counts_in (front_at (at_site old.space s) l)) r.levels r.position code r.at r.end) ≡ Ok (t, x.behind.at)
+  pub next : x.behind.position ≡ next_position r.position t
+  pub tail : x.tail ≡ tail_of t
+
+abbrev pub FailsStep : Progress → Site → Rest → List ℕ → LoadFault → Type 0
+FailsStep old s r code e = (l : Listed) → Holds old l → Fails e (in_step (run_names s.table) code
+    (step_at (counts_in (front_at (at_site old.space s) l)) r.levels r.position code r.at r.end))
+
+-- what this term does itself, whatever the progress holds
+pub record Fronts (old new : Progress) (s : Site) (o : Opened) (t : Tree) (x : Told) : Type 0 where
+  pub enters : (l : Listed) → Holds old l → (m : Listed) × Holds new m
+      × (entered_at (front_at (at_site old.space s) l) t ≡ Ok (front_at (at_site new.space x.inner) m))
+      × (x.inner.table ≡ s.table)
+  pub within : IsInside new x.inner
+  pub inside : x.inside ≡ span_inside t
+  pub behind : x.behind ≡ o.behind
+
+abbrev pub FailsEntering : Progress → Site → Tree → LoadFault → Type 0
+FailsEntering old s t e = (l : Listed) → Holds old l → Fails e (entered_at (front_at (at_site old.space s) l) t)
+
+-- this term was read, and did what it does itself
+abbrev pub HeadTo : Progress → Progress → Site → Rest → List ℕ → Told → Tree → Type 0
+HeadTo old new s r code x t = (o : Opened) × (StepTo old s r code o t × Fronts old new s o t x)
+
+abbrev pub FailsHead : Progress → Site → Rest → List ℕ → LoadFault → Type 0
+FailsHead old s r code e = (l : Listed) → Holds old l → Fails e (in_step (run_names s.table) code
+    (step_at (counts_in (front_at (at_site old.space s) l)) r.levels r.position code r.at r.end) >>= λ x.
+    entered_at (front_at (at_site old.space s) l) x.0)
 
 -- a term that stands inside a span is this one, with the terms inside it, and these declare so, whatever the progress holds
 abbrev pub OpensTo : Progress → Progress → Site → ℕ → List ℕ → Tree → Tree → Type 0

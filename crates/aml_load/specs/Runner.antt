@@ -1,34 +1,31 @@
 -- A stepping stone: what the walk over a table whose code outside methods may run makes of the progress, as `Running`
 -- says it.
-use Rattle.std.specs.Prelude.{◌≡◌, ◌≤◌, ◌<◌, ◌+◌, ◌-◌, ℕ, zero, suc, Bool, true, false, cond, List, length, Option}
+use Rattle.std.specs.Prelude.{◌≡◌, ◌≤◌, ◌<◌, ◌+◌, ◌-◌, ℕ, zero, suc, Bool, false, cond, List, length, Option}
 use Rattle.std.specs.Prelude.{Some}
 use Rattle.std.specs.Prelude.{None, Result, Ok, Err, option_map}
-use Rattle.std.specs.Prelude.{IsTrue, Vec}
+use Rattle.std.specs.Prelude.{IsTrue}
 use Rattle.std.specs.Option.{unwrap_or}
-use Rattle.std.specs.declared.alloc.Global.{Global}
 use Rattle.aml_parse.proofs.Forward.{is_run}
 use Rattle.aml_code.specs.Faults.{Arities, IsEnd, most_levels}
-use Rattle.aml_code.specs.Lawful.{ReadsStep, next_position}
+use Rattle.aml_code.specs.Lawful.{ReadsStep}
 use Rattle.aml_code.specs.Opcodes.{Row, row_of}
 use Rattle.aml_code.specs.Tree.{Tree, op, Trees, no_trees, terms, body}
-use Rattle.aml_code.specs.View.{node_view, nodes_view}
+use Rattle.aml_code.specs.View.{node_view}
 use Rattle.aml_code.specs.declared.rows.Position.{Position}
 use Rattle.aml_code.specs.declared.tree.Node.{Node}
 use Rattle.aml_parse.specs.Reading.{step_at}
-use Rattle.aml_parse.specs.Running.{SpanReader, has_terms, is_block, in_step, opened_at, run_term_at}
-use Rattle.aml_parse.specs.Running.{run_span_at, run_table_at}
+use Rattle.aml_parse.specs.Running.{SpanReader, has_terms, in_step}
+use Rattle.aml_parse.specs.Running.{run_span_at}
 use Rattle.aml_load.specs.declared.faults.LoadFault.{LoadFault}
 use Rattle.aml_load.specs.declared.faults.LoadFault.TheVariants as loads
 use Rattle.aml_load.specs.declared.uses.Site.{Site}
 use Rattle.aml_load.specs.declared.runner.Rest.{Rest}
-use Rattle.aml_load.specs.declared.runner.Term.{Term}
 use Rattle.aml_load.specs.declared.walking.Progress.{Progress}
 use Rattle.aml_code.specs.declared.rows.Role.{Role}
 use Rattle.aml_code.specs.declared.rows.Role.TheVariants as roles
 use Rattle.aml_load.specs.Declaring.{Listed}
 use Rattle.aml_load.specs.Loading.{Where}
-use Rattle.aml_load.specs.Running.{Front, table_front, counts_in, entered_at, run_names}
-use Rattle.std.specs.Prelude.{[]}
+use Rattle.aml_load.specs.Running.{Front, counts_in, entered_at, run_names}
 use Rattle.aml_load.specs.Tables.{Fails}
 use Rattle.aml_load.specs.Walking.{at_site, Gives, Holds}
 
@@ -76,10 +73,6 @@ abbrev pub IsThere : List ℕ → Rest → Tree → ℕ → Type 0
 IsThere code r head behind =
     (arity : Arities) × ReadsStep arity r.levels r.position code r.at r.end head behind
 
--- what is behind a term of a span
-abbrev pub IsOn : Rest → Term → Type 0
-IsOn r x = (r.at < x.behind) × (x.behind ≤ r.end) × IsTrue (is_run x.position)
-
 -- ---- what the walk makes of the progress
 
 -- where a term stands, and what stands in front of it
@@ -122,36 +115,3 @@ Enters old new s head answer = Comes old new s answer (λ f. entered_at f head)
 abbrev pub below : ℕ → (t : ℕ) → (code : List ℕ) → SpanReader (run_names t) code
 below zero t code p at end f = Ok (no_trees, f)
 below (suc levels) t code p at end f = run_span_at (run_names t) code levels p at end f
-
-abbrev pub Opened : Progress → Where → Result Node LoadFault → Result (Tree × Front) LoadFault → Type 0
-Opened new w (Ok x) walk = (m : Listed) × Holds new m × (walk ≡ Ok (node_view x, front_at w m))
-Opened new w (Err e) walk = Fails e walk
-
-abbrev pub Opens : Progress → Progress → Site → ℕ → List ℕ → Tree → Result Node LoadFault → Type 0
-Opens old new s levels code head answer = (l : Listed) → Holds old l → Opened new (at_site old.space s) answer
-    (opened_at (run_names s.table) code (below levels s.table code) (is_block head) head (front_at (at_site old.space s) l))
-
-abbrev pub Ran : Progress → Where → Position → Result Term LoadFault
-    → Result ((Tree × Tree) × (ℕ × Front)) LoadFault → Type 0
-Ran new w p (Ok x) walk = (m : Listed) × Holds new m × (head : Tree)
-    × (walk ≡ Ok ((head, node_view x.node), (x.behind, front_at w m))) × (x.position ≡ next_position p head)
-Ran new w p (Err e) walk = Fails e walk
-
-abbrev pub Runs : Progress → Progress → Site → Rest → List ℕ → Result Term LoadFault → Type 0
-Runs old new s r code answer = (l : Listed) → Holds old l → Ran new (at_site old.space s) r.position answer
-    (run_term_at (run_names s.table) code r.levels (below r.levels s.table code) r.position r.at r.end
-    (front_at (at_site old.space s) l))
-
-abbrev pub AllRan : Progress → Where → Result (Vec Node Global) LoadFault → Result (Trees × Front) LoadFault → Type 0
-AllRan new w (Ok x) walk = (m : Listed) × Holds new m × (walk ≡ Ok (nodes_view x.items, front_at w m))
-AllRan new w (Err e) walk = Fails e walk
-
-abbrev pub RunsAll : Progress → Progress → Site → Rest → List ℕ → Result (Vec Node Global) LoadFault → Type 0
-RunsAll old new s r code answer = (l : Listed) → Holds old l → AllRan new (at_site old.space s) answer
-    (run_span_at (run_names s.table) code r.levels r.position r.at r.end (front_at (at_site old.space s) l))
-
--- a whole table
-abbrev pub RunsTable : Progress → Progress → ℕ → List ℕ → Result (Vec Node Global) LoadFault → Type 0
-RunsTable old new t code answer = (l : Listed) → Holds old l →
-    AllRan new (record { table = t; scope = []; any_run = true; sure = true }) answer
-    (run_table_at (run_names t) code (table_front t l))

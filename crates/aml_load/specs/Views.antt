@@ -46,11 +46,11 @@ pub record HoldsNames (x : TableSet) (codes : List (List ℕ)) (es : List Entry)
   pub space : StandsFor x.space es
   pub methods : methods_of_set x ≡ methods_of es
 
--- and of its tables this is kept, by what a sink keeps of their terms
-pub record HoldsKept {S K : Type 0} (keeps : S → List Told → K → Type 0) (s : S) (x : TableSet × Vec K Global)
-    (codes : List (List ℕ)) (ts : List Trees) (es : List Entry) : Type 0 where
+-- and of its tables this is kept, by what a sink keeps of their AML and terms
+pub record HoldsKept {S K : Type 0} (keeps : S → List ℕ → List Told → K → Type 0) (s : S)
+    (x : TableSet × Vec K Global) (codes : List (List ℕ)) (ts : List Trees) (es : List Entry) : Type 0 where
   pub names : HoldsNames x.0 codes es
-  pub kept : AreKeptOf keeps s ts x.1.items
+  pub kept : AreKeptOf keeps s codes ts x.1.items
 
 -- ---- The bodies of methods, each read in the namespace of all entries (ACPI 6.5, 5.3 and 20.2.5).
 

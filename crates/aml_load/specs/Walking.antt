@@ -18,10 +18,7 @@ use Rattle.aml_load.specs.Declaring.{Listed}
 use Rattle.aml_load.specs.Loading.{methods_of, Where, parent_of, sure_with}
 use Rattle.aml_load.specs.Groups.{AreKnown, uses_of}
 use Rattle.aml_load.specs.Tables.{Fails}
-use Rattle.aml_code.specs.Tree.{Trees}
-use Rattle.aml_set.specs.declared.tables.Table.{Table}
 use Rattle.aml_set.specs.Methods.{methods_in, AreNumbered}
-use Rattle.aml_set.specs.Views.{table_dumps, table_codes, table_terms}
 
 -- where a site is, by the paths that have numbers
 abbrev pub at_site : Known → Site → Where
@@ -88,20 +85,6 @@ Walks old new answer walk = (l : Listed) → Holds old l → Walked new answer (
 -- what a function answers of the namespace, whatever that stands for
 abbrev pub GivesIn : {X Y : Type 0} → (X → Y) → Known → Result X LoadFault → (Listed → Result Y LoadFault) → Type 0
 GivesIn view space answer walk = (l : Listed) → StandsFor space l.entries → Gives view answer (walk l)
-
--- the same, with the trees before what is listed
-abbrev pub TableWalked : {X Y : Type 0} → (X → Y) → Progress → Result X LoadFault → Result (Y × Listed) LoadFault
-    → Type 0
-TableWalked view new (Ok x) walk = (m : Listed) × Holds new m × (walk ≡ Ok (view x, m))
-TableWalked view new (Err e) walk = Fails e walk
-
--- What a function made of tables and the progress is what the walk gives: the terms of all, and the tables are the same
--- but for these.
-abbrev pub TablesRead : List Table → List Table → Progress → Result (Unit {0}) LoadFault
-    → Result (List Trees × Listed) LoadFault → Type 0
-TablesRead old now new (Ok u) walk = (table_dumps now ≡ table_dumps old) × (table_codes now ≡ table_codes old)
-    × ((m : Listed) × Holds new m × (walk ≡ Ok (table_terms now, m)))
-TablesRead old now new (Err e) walk = Fails e walk
 
 -- ---- Numbers of paths.
 

@@ -60,3 +60,18 @@ pub fn add_asked(
     names.push(asked)?;
     add_group(groups, scope, names)
 }
+
+/// Adds groups behind others, in their order, and leaves none. Of the names of one term there is one.
+pub fn add_groups(groups: &mut Vec<Group>, more: &mut Vec<Group>) -> Result<(), NoMemory>
+    ensures added { (k : Known) → OnOk result
+        (uses_of k groups.new.items ≡ uses_of k groups.old.items ++ uses_of k more.old.items) }
+    ensures known { (k : Known) → AreKnown k more.old.items → AreKnown k groups.old.items →
+        OnOk result (AreKnown k groups.new.items) }
+    ensures none { OnOk result (more.new.items ≡ []) }
+{
+    let Some(last) = more.pop() else {
+        return Ok(());
+    };
+    add_groups(groups, more)?;
+    add_group(groups, last.scope, last.names)
+}

@@ -1,8 +1,8 @@
 //! Tables whose terms are told, and declare as they are told.
-ghost use Rattle.std.specs.Prelude.{◌≡◌, ◌≤◌, true, false, [], ◌∷◌, Option, Result, Some, None, Ok, OnOk};
+ghost use Rattle.std.specs.Prelude.{◌≡◌, ◌≤◌, false, [], ◌∷◌, Option, Result, Some, None, Ok, OnOk};
 ghost use Rattle.std.specs.Prelude.{IfOk, IfErr, length};
 ghost use Rattle.aml_load.specs.Declaring.{Listed};
-ghost use Rattle.aml_load.specs.Hearing.{Heard, hear};
+ghost use Rattle.aml_load.specs.Hearing.{Heard};
 ghost use Rattle.aml_code.specs.Pieces.{piece_view};
 ghost use Rattle.aml_code.specs.Lawful.{no_arguments};
 ghost use Rattle.aml_code.specs.Pieces.{line_pieces};
@@ -14,8 +14,9 @@ ghost use Rattle.aml_load.specs.HearingViews.{Says, Ended, Grew, TableHeard, Fai
 ghost use Rattle.aml_load.specs.Walking.{Holds};
 ghost use Rattle.aml_load.specs.declared.faults.LoadFault.{LoadFault as AnyFault};
 
+use crate::ears::{Around, Ears, is_silent};
 use crate::faults::LoadFault;
-use crate::hearing::{Around, Hearing};
+use crate::hearing::Hearing;
 use crate::uses::Site;
 use crate::walking::Progress;
 use aml_code::{Both, CodeFault, NoMemory, Piece, Sink, TableSink, Telling};
@@ -36,18 +37,14 @@ impl Hearer {
     fn new(progress: Progress, table: usize) -> Result<Hearer, NoMemory>
         ensures { (l : Listed) → Holds progress l → IfOk result (λ x. Says (x.hearing, x.fault) (Ok (begun table l))) }
     {
-        let mut around = Vec::new(progress.alloc);
-        around.push(Around::Terms(Site {
+        let root = Site {
             table,
             scope: progress.space.root(),
             any_run: false,
             sure: true,
-        }))?;
-        let hearing = Hearing {
-            progress,
-            head: None,
-            around,
         };
+        let ears = Ears::new(progress.alloc, Around::Terms(root))?;
+        let hearing = Hearing { progress, ears };
         Ok(Hearer {
             hearing,
             fault: None,
@@ -59,28 +56,16 @@ impl Hearer {
         ensures { (heard : Result Heard AnyFault) → Says (self.hearing, self.fault) heard → Ended result heard }
     {
         let Hearer { hearing, fault } = self;
-        let Hearing { progress, .. } = hearing;
-        match fault {
-            None => Ok(progress),
-            Some(fault) => Err(fault),
+        let Hearing {
+            mut progress,
+            mut ears,
+        } = hearing;
+        if let Some(fault) = fault {
+            return Err(fault);
         }
+        progress.keep_uses(&mut ears.uses)?;
+        Ok(progress)
     }
-}
-
-/// Whether a piece declares nothing, and changes nothing of what stands around the next one.
-#[inline(always)]
-fn is_silent(piece: &Piece<'_>) -> bool
-    ensures { result ≡ true → (x : Heard) → hear (piece_view piece.now) x ≡ Ok x }
-{
-    matches!(
-        piece,
-        Piece::EndOfParts(_)
-            | Piece::Next
-            | Piece::Line(_)
-            | Piece::EndOfLine
-            | Piece::Link
-            | Piece::EndOfLink
-    )
 }
 
 impl Hearer {
@@ -225,7 +210,8 @@ pub fn hear_table<S: TableSink>(
     sink: &S,
 ) -> Result<(Progress, S::Kept), LoadFault>
     requires { length code.now ≤ 16777216 }
-    ensures heard { IfOk result (λ x. TableHeard any_run progress table code.now x.0 (λ ps. S.keeps sink.now ps x.1)) }
+    ensures heard { IfOk result (λ x.
+        TableHeard any_run progress table code.now x.0 (λ ps. S.keeps sink.now code.now ps x.1)) }
     ensures fails { IfErr result (FailsToTell any_run progress table code.now) }
 {
     if any_run {
@@ -234,12 +220,12 @@ pub fn hear_table<S: TableSink>(
             table,
             code,
         };
-        return sink.take(code.len(), run);
+        return sink.take(code, run);
     }
     let hearing = TableHearing {
         progress,
         table,
         code,
     };
-    sink.take(code.len(), hearing)
+    sink.take(code, hearing)
 }

@@ -5,6 +5,7 @@
 #![tactic(auto)]
 
 mod bodies;
+mod ears;
 mod faults;
 mod groups;
 mod hearer;

@@ -1,22 +1,21 @@
 //! The load of tables in their order.
-ghost use Rattle.std.specs.Prelude.{◌≡◌, ◌⊎◌, true, false, [], List, Bool, Err, IfOk, IfErr, Some, length};
+ghost use Rattle.std.specs.Prelude.{◌≡◌, ◌⊎◌, true, false, List, Bool, Err, IfOk, IfErr, Some, length};
 ghost use Rattle.aml_names.specs.declared.segments.Seg.{Seg as AnySeg};
 ghost use Rattle.aml_load.specs.Groups.{group_uses, use_in, uses_of};
 ghost use Rattle.std.specs.Prelude.{nat_eq, ◌≤◌, ◌||◌};
 ghost use Rattle.std.specs.Option.{option_eq};
 ghost use Rattle.aml_code.specs.Tree.{Trees};
-ghost use Rattle.aml_code.specs.View.{nodes_view};
 ghost use Rattle.aml_namespace.specs.Namespace.{Entry, given_entries};
 ghost use Rattle.aml_namespace.specs.Known.{StandsFor};
 ghost use Rattle.aml_load.specs.Declaring.{Listed, first_listed, most_methods, use_count, call_fault, uses_at};
 ghost use Rattle.aml_load.specs.Kept.{AreKeptOf};
 ghost use Rattle.aml_load.specs.Loading.{LoadsTo};
-ghost use Rattle.aml_load.specs.Tables.{StopsFor, table_at, tables_at, GivesBy, GivesLoad, GivesSet};
+ghost use Rattle.aml_load.specs.Tables.{StopsFor, GivesBy, GivesLoad, GivesSet};
 ghost use Rattle.aml_load.specs.HearingViews.{TablesHeard, FailToTell, IsChecked};
 ghost use Rattle.aml_load.specs.Views.{HoldsKept, HoldsLoad, HoldsTables};
-ghost use Rattle.aml_load.specs.Walking.{Holds, Gives, TableWalked, TablesRead};
+ghost use Rattle.aml_load.specs.Walking.{Holds, Gives};
 ghost use Rattle.aml_set.specs.Code.{AreCodes, AreShort};
-ghost use Rattle.aml_set.specs.Views.{codes_view, table_codes, table_dumps};
+ghost use Rattle.aml_set.specs.Views.{codes_view, table_codes, table_dumps, table_terms, trees_view};
 
 use crate::faults::LoadFault;
 use crate::groups::Group;
@@ -26,70 +25,10 @@ use crate::uses::Site;
 use crate::walking::Progress;
 use aml_code::{Locals, NoMemory, Node, Path, TableSink};
 use aml_names::{ArgumentCount, Arity, place};
-use aml_parse::parse_module;
+use aml_parse::TableTerms;
 use aml_set::{Loaded, Table, TableSet};
 use aml_space::{BodyNames, Space, SpacePath};
 use std::alloc::Global;
-
-/// Reads a table whole, and then declares what it declares.
-#[tactic(auto, unfolding(crate::specs::Tables::table_at))]
-fn load_whole_table(
-    progress: &mut Progress,
-    table: usize,
-    code: &[u8],
-) -> Result<Vec<Node>, LoadFault>
-    requires { length code.now ≤ 16777216 }
-    ensures { (l : Listed) → Holds progress.old l →
-        TableWalked (λ x. nodes_view x.items) progress.new result (table_at false table l code.now) }
-{
-    let terms = match parse_module(progress.alloc, code) {
-        Ok(terms) => terms,
-        Err(fault) => return Err(LoadFault::in_code(table, fault)),
-    };
-    let root = Site {
-        table,
-        scope: progress.space.root(),
-        any_run: false,
-        sure: true,
-    };
-    progress.walk_all(&root, terms.as_slice())?;
-    Ok(terms)
-}
-
-/// Reads a table, and declares what it declares.
-fn load_table(
-    progress: &mut Progress,
-    any_run: bool,
-    table: usize,
-    code: &[u8],
-) -> Result<Vec<Node>, LoadFault>
-    requires { length code.now ≤ 16777216 }
-    ensures { (l : Listed) → Holds progress.old l →
-        TableWalked (λ x. nodes_view x.items) progress.new result (table_at any_run table l code.now) }
-{
-    if any_run {
-        progress.run_table(table, code)
-    } else {
-        load_whole_table(progress, table, code)
-    }
-}
-
-/// Reads tables that aren't read yet, and declares what they declare.
-#[tactic(auto, unfolding(crate::specs::Tables::tables_at))]
-fn read_tables(
-    progress: &mut Progress,
-    any_run: bool,
-    tables: &mut Vec<Table<'_>>,
-) -> Result<(), LoadFault>
-    ensures { (l : Listed) → Holds progress.old l → TablesRead tables.old.items tables.new.items progress.new result
-        (tables_at any_run 0 [] l (table_codes tables.old.items)) }
-{
-    for number in 0..tables.len() {
-        let table = &mut tables[number];
-        table.terms = load_table(progress, any_run, number, table.code)?;
-    }
-    Ok(())
-}
 
 /// The names as one sees them that stands in their scope outside the methods.
 fn names_for<'a>(names: BodyNames<'a>, unknown_zero: bool, asked: &Asked) -> BodyNames<'a>
@@ -231,22 +170,6 @@ fn checked_set<'a>(
     })
 }
 
-#[tactic(auto, unfolding(crate::specs::Tables::load_at))]
-fn load_each<'a>(
-    alloc: Global,
-    mut tables: Vec<Table<'a>>,
-    givens: &[(Path, ArgumentCount)],
-    any_run: bool,
-    unknown_zero: bool,
-) -> Result<TableSet<'a>, LoadFault>
-    ensures dumps { IfOk result (λ x. table_dumps x.tables.items ≡ table_dumps tables.entry.items) }
-    ensures gives { GivesSet any_run unknown_zero givens.now result (table_codes tables.entry.items) }
-{
-    let mut progress = first_progress(alloc, givens)?;
-    read_tables(&mut progress, any_run, &mut tables)?;
-    checked_set(progress, tables, any_run, unknown_zero)
-}
-
 /// Reads tables, and declares what their terms declare: no term is kept. Gives what is kept of each.
 #[tactic(auto, unfolding(crate::specs::Tables::tables_at))]
 fn hear_tables<S: TableSink>(
@@ -256,7 +179,8 @@ fn hear_tables<S: TableSink>(
     sink: &S,
 ) -> Result<(Progress, Vec<S::Kept>), LoadFault>
     ensures heard { IfOk result (λ x. TablesHeard any_run progress (table_codes tables.now) x.0
-        (λ trees. AreKeptOf S.keeps sink.now trees x.1.items)) }
+        (λ trees. AreKeptOf S.keeps sink.now (table_codes tables.now) trees x.1.items)) }
+    ensures each { IfOk result (λ x. length x.1.items ≡ length tables.now) }
     ensures fails { IfErr result (FailToTell any_run progress (table_codes tables.now)) }
 {
     let mut heard = progress;
@@ -277,6 +201,7 @@ fn hear_each<'a, S: TableSink>(
     sink: &S,
 ) -> Result<(TableSet<'a>, Vec<S::Kept>), LoadFault>
     ensures dumps { IfOk result (λ x. table_dumps x.0.tables.items ≡ table_dumps tables.entry.items) }
+    ensures each { IfOk result (λ x. length x.1.items ≡ length x.0.tables.items) }
     ensures gives { GivesBy (HoldsKept S.keeps sink.now) rules.entry.any_run rules.entry.unknown_zero
         rules.entry.givens.now result (table_codes tables.entry.items) }
 {
@@ -309,7 +234,7 @@ pub fn load_names<'a, S: TableSink>(
     // The tables are the same ones.
     ensures dumps { IfOk result (λ x. table_dumps x.0.tables.items ≡ table_dumps tables.entry.items) }
     // Their AML reads as terms that load to entries whose namespace and methods are the answer's; and of each table is
-    // kept what the sink keeps of these terms.
+    // kept what the sink keeps of its AML and these terms.
     ensures sound { IfOk result (λ x. (trees : List Trees) × (es : List Entry) ×
         LoadsTo rules.entry.any_run rules.entry.unknown_zero rules.entry.givens.now (table_codes tables.entry.items)
         trees es × HoldsKept S.keeps sink.now x (table_codes tables.entry.items) trees es) }
@@ -331,6 +256,35 @@ pub fn load_names<'a, S: TableSink>(
         rules.entry.givens.now result (table_codes tables.entry.items) }
 {
     hear_each(alloc, tables, rules, sink)
+}
+
+/// Puts terms into tables, in their order.
+fn put_terms(tables: &mut Vec<Table<'_>>, terms: Vec<Vec<Node>>)
+    requires { length terms.items ≡ length tables.old.items }
+    ensures dumps { table_dumps tables.new.items ≡ table_dumps tables.old.items }
+    ensures codes { table_codes tables.new.items ≡ table_codes tables.old.items }
+    ensures terms { table_terms tables.new.items ≡ trees_view terms.items }
+{
+    let mut number = 0;
+    for nodes in terms {
+        tables[number].terms = nodes;
+        number += 1;
+    }
+}
+
+/// Loads tables, and keeps their terms in them.
+fn load_each<'a>(
+    alloc: Global,
+    tables: Vec<Table<'a>>,
+    rules: LoadRules<'_>,
+) -> Result<TableSet<'a>, LoadFault>
+    ensures dumps { IfOk result (λ x. table_dumps x.tables.items ≡ table_dumps tables.entry.items) }
+    ensures gives { GivesSet rules.entry.any_run rules.entry.unknown_zero rules.entry.givens.now result
+        (table_codes tables.entry.items) }
+{
+    let (mut set, terms) = hear_each(alloc, tables, rules, &TableTerms { alloc })?;
+    put_terms(&mut set.tables, terms);
+    Ok(set)
 }
 
 /// Loads tables that aren't read yet as one, as `load` does, or as `load_any_run` where `any_run` says so: each keeps
@@ -363,7 +317,12 @@ pub fn load_tables<'a>(
     // Which fault it is: the first that is met in loading forward.
     ensures forward { GivesSet any_run unknown_zero givens.now result (table_codes tables.entry.items) }
 {
-    load_each(alloc, tables, givens, any_run, unknown_zero)
+    let rules = LoadRules {
+        givens,
+        any_run,
+        unknown_zero,
+    };
+    load_each(alloc, tables, rules)
 }
 
 /// Tables by their AML, which aren't read yet, each with its place for the index of its dump.
@@ -382,16 +341,15 @@ fn unread_tables<'a>(alloc: Global, codes: &[&'a [u8]]) -> Result<Vec<Table<'a>>
 fn load_lists<'a>(
     alloc: Global,
     codes: &[&'a [u8]],
-    givens: &[(Path, ArgumentCount)],
-    any_run: bool,
-    unknown_zero: bool,
+    rules: LoadRules<'_>,
 ) -> Result<Loaded<'a>, LoadFault>
     requires { AreShort (codes_view codes.now) }
     ensures bytes { (result ≡ Err LoadFault.NoMemory) ⊎ AreCodes (codes_view codes.now) }
-    ensures gives { GivesLoad any_run unknown_zero givens.now result (codes_view codes.now) }
+    ensures gives { GivesLoad rules.entry.any_run rules.entry.unknown_zero rules.entry.givens.now result
+        (codes_view codes.now) }
 {
     let tables = unread_tables(alloc, codes)?;
-    let set = load_each(alloc, tables, givens, any_run, unknown_zero)?;
+    let set = load_each(alloc, tables, rules)?;
     let loaded = Loaded::of(alloc, set)?;
     Ok(loaded)
 }
@@ -432,7 +390,12 @@ pub fn load<'a>(
     // Which fault it is: the first that is met in loading forward.
     ensures forward { GivesLoad false false givens.now result (codes_view tables.now) }
 {
-    load_lists(alloc, tables, givens, false, false)
+    let rules = LoadRules {
+        givens,
+        any_run: false,
+        unknown_zero: false,
+    };
+    load_lists(alloc, tables, rules)
 }
 
 /// Loads tables as one, as `load` does, where the code outside methods may run. Each table is read from the left: how
@@ -468,5 +431,10 @@ pub fn load_any_run<'a>(
     // Which fault it is: the first that is met in loading forward.
     ensures forward { GivesLoad true unknown_zero givens.now result (codes_view tables.now) }
 {
-    load_lists(alloc, tables, givens, true, unknown_zero)
+    let rules = LoadRules {
+        givens,
+        any_run: true,
+        unknown_zero,
+    };
+    load_lists(alloc, tables, rules)
 }

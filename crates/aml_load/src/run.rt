@@ -1,29 +1,37 @@
 //! The terms of a table whose code outside methods may run: each is told as it is read, and declares before the next one
 //! is read.
-ghost use Rattle.std.specs.Prelude.{◌≡◌, ◌≤◌, ◌++◌, ◌∷◌, [], List, length, IfOk, IfErr, OnOk};
+ghost use Rattle.std.specs.Prelude.{◌≡◌, ◌≤◌, ◌++◌, ◌∷◌, [], List, Option, length, IfOk, IfErr, OnOk};
+ghost use Rattle.aml_code.specs.Lawful.{next_position};
 ghost use Rattle.aml_code.specs.Pieces.{Told, deeper, line_pieces, pieces, line, end_of_line};
 ghost use Rattle.aml_code.specs.Tree.{Tree, Trees};
-ghost use Rattle.aml_code.specs.View.{node_view};
+ghost use Rattle.aml_load.specs.Declaring.{Listed};
+ghost use Rattle.aml_load.specs.Front.{HasBegunAt, IsHeard};
 ghost use Rattle.aml_load.specs.Opening.{front_pieces};
-ghost use Rattle.aml_load.specs.Run.{FailsOpening, FailsTerm, FailsTerms, FailsTable, OpensTo, RunsTo, RunsAllTo, RunsTableTo, IsBehind};
-ghost use Rattle.aml_load.specs.Runner.{HasRoom, HasRoomInside, IsThere, Steps};
-ghost use Rattle.aml_load.specs.Walking.{IsInside, Stays};
+ghost use Rattle.aml_load.specs.HearingViews.{AreNumbered, Goes};
+ghost use Rattle.aml_load.specs.Hearing.{catch_all};
+ghost use Rattle.aml_load.specs.Run.{FailsEntering, FailsHead, FailsOpening, FailsStep, FailsTerm, FailsTerms, FailsTable, HeadTo, OpensTo};
+ghost use Rattle.aml_load.specs.Run.{RunsTo, RunsAllTo, RunsTableTo, IsBehind, StepTo, Fronts};
+ghost use Rattle.aml_load.specs.Runner.{HasRoom, IsThere, RoomBy, span_inside};
+ghost use Rattle.aml_load.specs.Walking.{Holds, IsInside, Stays};
 
+use crate::ears::{Around, Ears};
 use crate::faults::LoadFault;
-use crate::opening::tell_front;
-use crate::runner::{MOST_LEVELS, Rest, RunNames, span_inside};
+use crate::opening::{Opened, tell_front};
+use crate::runner::{MOST_LEVELS, Rest, RunNames};
 use crate::uses::Site;
 use crate::walking::Progress;
-use aml_code::{Node, Piece, Position, Sink, TailKind};
-use aml_parse::{StepAt, next_position};
+use aml_code::{Piece, Position, Sink, TailKind};
+use aml_parse::{Behind, StepAt};
 use aml_space::BodyNames;
 
-/// Where a span goes on behind a term.
+/// A term that was told without the terms inside it, and has declared what it declares itself.
 #[derive(Clone, Copy)]
-struct Behind {
-    position: Position,
-    /// An offset in bytes.
-    at: u32,
+struct Front {
+    /// Where the terms inside it stand.
+    inner: Site,
+    /// Their span, if there is one: where it begins, and its length.
+    inside: Option<(u32, u32)>,
+    behind: Behind,
 }
 
 /// The level of the lines in a block in a line of this one.
@@ -34,20 +42,23 @@ fn deeper(level: u32) -> u32
 }
 
 impl Progress {
-    /// The term that stands there, without the terms inside it, and the offset behind it. Each name in it is searched.
-    /// The sink is told its pieces, but not the span of those terms.
-    fn tell_head<S: Sink>(
+    /// Reads the term that stands there without the terms inside it, and searches each name in it. The ears hear it, and
+    /// the sink is told its pieces, but not the span of those terms.
+    fn read_front<S: Sink>(
         &mut self,
         site: &Site,
         rest: Rest,
         code: &[u8],
+        ears: &mut Ears,
         sink: &mut S,
-    ) -> Result<(Node, u32), LoadFault>
+    ) -> Result<Opened, LoadFault>
         requires room { HasRoom code.now rest }
         requires inside { IsInside self.old site.now }
-        ensures there { IfOk result (λ x. IsThere code.now rest (node_view x.0) x.1) }
-        ensures step { Steps self.old site.now rest code.now result }
-        ensures told { IfOk result (λ x. S.grew sink.old sink.new (front_pieces rest.level (node_view x.0))) }
+        requires begun { HasBegunAt ears.old site.now }
+        ensures told { IfOk result (λ x. (t : Tree) × (StepTo self.old site.now rest code.now x t
+            × (Goes self.old.space ears.old ears.new (catch_all (pieces rest.level t))
+            × S.grew sink.old sink.new (front_pieces rest.level t)))) }
+        ensures fails { IfErr result (FailsStep self.old site.now rest code.now) }
         ensures same { self.new ≡ self.old }
     {
         self.space.expect_search(site.scope);
@@ -62,31 +73,79 @@ impl Progress {
             at: rest.at,
             end: rest.end,
         };
-        match tell_front(self.alloc, &names, &step, sink) {
-            Ok(head) => Ok(head),
+        match tell_front(&names, &step, ears, sink) {
+            Ok(opened) => Ok(opened),
             Err(fault) => Err(LoadFault::in_code(site.table, fault)),
         }
+    }
+
+    /// Does what a term does of which this was heard.
+    fn enter_front(
+        &mut self,
+        site: &Site,
+        mut ears: Ears,
+        opened: &Opened,
+    ) -> Result<Front, LoadFault>
+        requires inside { IsInside self.old site.now }
+        requires numbered { AreNumbered self.old.space ears }
+        ensures comes { (t : Tree) → IsHeard self.old.space site.now ears opened.now t →
+            IfOk result (Fronts self.old self.new site.now opened.now t) }
+        ensures fails { (t : Tree) → IsHeard self.old.space site.now ears opened.now t →
+            IfErr result (FailsEntering self.old site.now t) }
+        ensures stays { OnOk result (Stays self.old self.new) }
+    {
+        self.keep_uses(&mut ears.uses)?;
+        let is_block = ears.is_block();
+        let span = opened.tail.unwrap_or((0, 0));
+        let inner = self.enter_heard(site, ears.head.as_ref(), span)?;
+        Ok(Front {
+            inner,
+            inside: if is_block { opened.tail } else { None },
+            behind: opened.behind,
+        })
+    }
+
+    /// Tells the term that stands there without the terms inside it and their span: what it declares itself is declared.
+    /// What this takes of the stack is let go before the terms inside it are told.
+    #[inline(never)]
+    fn tell_head<S: Sink>(
+        &mut self,
+        site: &Site,
+        rest: Rest,
+        code: &[u8],
+        sink: &mut S,
+    ) -> Result<Front, LoadFault>
+        requires room { HasRoom code.now rest }
+        requires inside { IsInside self.old site.now }
+        ensures told { IfOk result (λ x. (t : Tree) × (S.grew sink.old sink.new (front_pieces rest.level t)
+            × HeadTo self.old self.new site.now rest code.now x t)) }
+        ensures fails { IfErr result (FailsHead self.old site.now rest code.now) }
+        ensures stays { OnOk result (Stays self.old self.new) }
+    {
+        let mut ears = Ears::new(self.alloc, Around::Run(*site))?;
+        let opened = self.read_front(site, rest, code, &mut ears, sink)?;
+        self.enter_front(site, ears, &opened)
     }
 
     /// Tells the terms inside a term that was told without them.
     #[cycle(running)]
     fn tell_inside<S: Sink>(
         &mut self,
-        inner: &Site,
+        front: &Front,
         rest: Rest,
         code: &[u8],
-        head: &Node,
         sink: &mut S,
     ) -> Result<(), LoadFault>
-        requires room { HasRoomInside code.now rest.levels (node_view head.now) }
-        requires inside { IsInside self.old inner.now }
-        ensures told { OnOk result ((t : Tree) × ((ps : List Told) × (
-            (pieces rest.level t ≡ front_pieces rest.level (node_view head.now) ++ ps) × (S.grew sink.old sink.new ps
-            × OpensTo self.old self.new inner.now rest.levels code.now (node_view head.now) t)))) }
-        ensures fails { IfErr result (FailsOpening self.old inner.now rest.levels code.now (node_view head.now)) }
+        requires room { RoomBy code.now rest.levels front.now.inside }
+        requires inside { IsInside self.old front.now.inner }
+        ensures told { OnOk result ((head : Tree) → span_inside head ≡ front.now.inside →
+            (t : Tree) × ((ps : List Told) × ((pieces rest.level t ≡ front_pieces rest.level head ++ ps)
+            × (S.grew sink.old sink.new ps × OpensTo self.old self.new front.now.inner rest.levels code.now head t)))) }
+        ensures fails { (head : Tree) → span_inside head ≡ front.now.inside →
+            IfErr result (FailsOpening self.old front.now.inner rest.levels code.now head) }
         ensures stays { OnOk result (Stays self.old self.new) }
     {
-        match span_inside(head) {
+        match front.inside {
             None => Ok(()),
             Some((start, len)) => {
                 let inside = Rest {
@@ -97,7 +156,7 @@ impl Progress {
                     end: start + len,
                 };
                 sink.tell(Piece::List(TailKind::Terms))?;
-                self.tell_terms(inner, inside, code, sink)?;
+                self.tell_terms(&front.inner, inside, code, sink)?;
                 sink.tell(Piece::EndOfList(TailKind::Terms, rest.level))?;
                 Ok(())
             }
@@ -106,7 +165,6 @@ impl Progress {
 
     /// Tells the first term of a span in a line: what it and the terms inside it declare is declared.
     #[cycle(running)]
-    #[tactic(auto, unfolding(aml_parse::specs::Running::run_term_at))]
     fn tell_line<S: Sink>(
         &mut self,
         site: &Site,
@@ -124,15 +182,10 @@ impl Progress {
         ensures stays { OnOk result (Stays self.old self.new) }
     {
         sink.tell(Piece::Line(rest.level))?;
-        let (head, behind) = self.tell_head(site, rest, code, sink)?;
-        let inner = self.enter(site, &head)?;
-        let position = next_position(rest.position, &head);
-        self.tell_inside(&inner, rest, code, &head, sink)?;
+        let front = self.tell_head(site, rest, code, sink)?;
+        self.tell_inside(&front, rest, code, sink)?;
         sink.tell(Piece::EndOfLine)?;
-        Ok(Behind {
-            position,
-            at: behind,
-        })
+        Ok(front.behind)
     }
 
     /// Tells the terms of a span, one after the other.

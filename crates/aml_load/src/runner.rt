@@ -1,8 +1,8 @@
 //! The walk over a table whose code outside methods may run.
-ghost use Rattle.std.specs.Prelude.{◌≡◌, ◌≤◌, ◌∷◌, ◌++◌, [], length, IfOk, OnOk, Ok};
-ghost use Rattle.aml_code.specs.View.{node_view, nodes_view, parts_view, tail_view};
+ghost use Rattle.std.specs.Prelude.{◌≡◌, [], length, IfOk, OnOk, Ok};
+ghost use Rattle.aml_code.specs.View.{node_view, parts_view, tail_view};
 ghost use Rattle.std.specs.Prelude.{is_some, ◌&&◌};
-ghost use Rattle.std.specs.Option.{option_copied, option_and_then};
+ghost use Rattle.std.specs.Option.{option_copied};
 ghost use Rattle.std.specs.FinSet as set;
 ghost use Rattle.aml_namespace.specs.Namespace.{namespace_of, found};
 ghost use Rattle.aml_namespace.specs.Known.{StandsFor};
@@ -12,9 +12,13 @@ ghost use Rattle.aml_load.specs.Declaring.{Listed, declare_as};
 ghost use Rattle.aml_load.specs.Running.{opened_at, object_at, scope_at, enter_as};
 ghost use Rattle.aml_namespace.specs.Kinds.{kind_in};
 ghost use Rattle.aml_load.specs.Walking.{at_site, GivesIn, Walks, Holds, IsInside, Stays, AreBelow, IsPlain};
-ghost use Rattle.aml_load.specs.Runner.{IsFlat, IsSiteOf, Comes, opens, span_inside, with_terms, HasRoom};
-ghost use Rattle.aml_load.specs.Runner.{HasRoomInside, IsOn, IsThere, Steps, Enters, Opens, Runs, RunsAll, RunsTable};
+ghost use Rattle.aml_load.specs.Runner.{IsFlat, IsSiteOf, Comes, opens, span_inside};
+ghost use Rattle.aml_load.specs.Runner.{Enters};
+ghost use Rattle.aml_load.specs.Front.{enters_as, head_enters};
+ghost use Rattle.aml_load.specs.HearingViews.{head_view};
+ghost use Rattle.std.specs.Prelude.{IfSome, option_map};
 
+use crate::ears::{Head, Shape};
 use crate::faults::LoadFault;
 use crate::roles::{kind_of, role_of};
 use crate::uses::Site;
@@ -23,7 +27,6 @@ use aml_code::{
     Arity, Locals, Name, NoMemory, Node, Part, Position, Role, Tail, TailKind, last_name,
     listed_row,
 };
-use aml_parse::{next_position, read_step};
 use aml_space::{Below, BodyNames, Kind, PathId, SpaceFault};
 use std::alloc::Global;
 
@@ -72,14 +75,6 @@ pub struct Rest {
     pub position: Position,
     pub at: u32,
     pub end: u32,
-}
-
-/// A term of a table, and what is left of its span behind it.
-#[derive(Drop)]
-struct Term {
-    node: Node,
-    position: Position,
-    behind: u32,
 }
 
 /// How many arguments names take in a term outside methods: none where nothing tells.
@@ -136,53 +131,7 @@ pub fn span_inside(head: &Node) -> Option<(u32, u32)>
     }
 }
 
-/// A term with these terms inside it.
-fn with_terms(head: Node, terms: Vec<Node>) -> Node
-    ensures { node_view result ≡ with_terms (node_view head) (nodes_view terms.items) }
-{
-    match head {
-        Node::Op {
-            opcode,
-            width,
-            parts,
-            ..
-        } => Node::Op {
-            opcode,
-            width,
-            parts,
-            tail: Tail::Terms(terms),
-        },
-        other => other,
-    }
-}
-
 impl Progress {
-    /// The term that stands there, without the terms inside it, and the offset behind it. Each name in it is searched.
-    fn read_head(&mut self, site: &Site, rest: Rest, code: &[u8]) -> Result<(Node, u32), LoadFault>
-        requires room { HasRoom code.now rest }
-        requires inside { IsInside self.old site.now }
-        ensures there { IfOk result (λ x. IsThere code.now rest (node_view x.0) x.1) }
-        ensures step { Steps self.old site.now rest code.now result }
-        ensures same { self.new ≡ self.old }
-    {
-        self.space.expect_search(site.scope);
-        let names = RunNames {
-            names: BodyNames::numbered(&self.space, site.scope, false),
-        };
-        match read_step(
-            self.alloc,
-            &names,
-            rest.position,
-            rest.levels,
-            code,
-            rest.at,
-            rest.end,
-        ) {
-            Ok(head) => Ok(head),
-            Err(fault) => Err(LoadFault::in_code(site.table, fault)),
-        }
-    }
-
     /// Whether some table names what a name may mean.
     fn is_known(&self, site: &Site, name: &Name) -> Result<bool, NoMemory>
         ensures { (l : Listed) → StandsFor self.now.space l.entries → IfOk result (λ b. b
@@ -279,6 +228,73 @@ impl Progress {
     }
 }
 
+#[tactic(auto, unfolding(crate::specs::Front::enters_as, crate::specs::Hearing::enter_as))]
+impl Progress {
+    /// Does what a term does by its head, with the span of its body, inside which no terms stand.
+    fn enter_heard_flat(
+        &mut self,
+        here: &Site,
+        head: &Head,
+        span: (u32, u32),
+    ) -> Result<Site, LoadFault>
+        requires inside { IsInside self.old here.now }
+        requires there { IsInside self.old head.now.site }
+        ensures comes { IsFlat head.now.role → Comes self.old self.new here.now result (λ f.
+            enters_as head.now.role (head_view self.old.space head.now) f span) }
+        ensures within { IfOk result (IsInside self.new) }
+        ensures stays { OnOk result (Stays self.old self.new) }
+    {
+        self.enter_plain(head, span)?;
+        Ok(here.also(true))
+    }
+
+    /// Does what an opcode does by its head, with the span of its body.
+    fn enter_operation(
+        &mut self,
+        here: &Site,
+        head: &Head,
+        span: (u32, u32),
+    ) -> Result<Site, LoadFault>
+        requires inside { IsInside self.old here.now }
+        requires there { IsInside self.old head.now.site }
+        ensures comes { Comes self.old self.new here.now result (λ f.
+            enters_as head.now.role (head_view self.old.space head.now) f span) }
+        ensures within { IfOk result (IsInside self.new) }
+        ensures stays { OnOk result (Stays self.old self.new) }
+    {
+        match head.role {
+            Role::Declares(object) => self.enter_object(here, head.last(), kind_of(object)),
+            Role::Scope => self.enter_scope(here, head.last()),
+            Role::Guard | Role::Other => Ok(here.also(false)),
+            _ => self.enter_heard_flat(here, head, span),
+        }
+    }
+
+    /// Does what a term does of which this was heard, with the span of its body, and says where the terms inside it stand.
+    #[tactic(auto, unfolding(crate::specs::Front::head_enters, crate::specs::Front::enters_by))]
+    pub fn enter_heard(
+        &mut self,
+        here: &Site,
+        head: Option<&Head>,
+        span: (u32, u32),
+    ) -> Result<Site, LoadFault>
+        requires inside { IsInside self.old here.now }
+        requires there { IfSome head (λ h. IsInside self.old h.now.site) }
+        ensures comes { Comes self.old self.new here.now result (λ f.
+            head_enters (option_map (λ h. head_view self.old.space h.now) head.entry) f span) }
+        ensures within { IfOk result (IsInside self.new) }
+        ensures stays { OnOk result (Stays self.old self.new) }
+    {
+        match head {
+            None => Ok(here.also(true)),
+            Some(head) => match head.shape {
+                Shape::Call => Ok(here.also(true)),
+                _ => self.enter_operation(here, head, span),
+            },
+        }
+    }
+}
+
 #[tactic(auto, unfolding(crate::specs::Running::enter_as))]
 impl Progress {
     /// Does what the role of a term does that opens nothing, and stays where it is.
@@ -316,7 +332,8 @@ impl Progress {
         match role {
             Role::Declares(object) => self.enter_object(here, last_name(parts), kind_of(object)),
             Role::Scope => self.enter_scope(here, last_name(parts)),
-            Role::Guard | Role::Other => Ok(here.also(false)),
+            Role::Guard => Ok(here.also(false)),
+            Role::Other => Ok(here.also(false)),
             _ => self.enter_flat(here, role, parts, tail),
         }
     }
@@ -341,108 +358,5 @@ impl Progress {
                 ..
             } => self.enter_role(site, role_of(*opcode), parts.as_slice(), tail),
         }
-    }
-
-    /// The term, with the terms inside it.
-    #[cycle(runs)]
-    fn open(
-        &mut self,
-        inner: &Site,
-        levels: u16,
-        code: &[u8],
-        head: Node,
-    ) -> Result<Node, LoadFault>
-        requires room { HasRoomInside code.now levels (node_view head) }
-        requires inside { IsInside self.old inner.now }
-        ensures opens { Opens self.old self.new inner.now levels code.now (node_view head) result }
-        ensures stays { OnOk result (Stays self.old self.new) }
-    {
-        match span_inside(&head) {
-            None => Ok(head),
-            Some((start, len)) => {
-                let inside = Rest {
-                    level: 0,
-                    levels: levels - 1,
-                    position: Position::RunTerm,
-                    at: start,
-                    end: start + len,
-                };
-                let terms = self.run_terms(inner, inside, code)?;
-                Ok(with_terms(head, terms))
-            }
-        }
-    }
-
-    /// The first term of a span: what it and the terms inside it declare is declared.
-    #[cycle(runs)]
-    #[tactic(auto, unfolding(aml_parse::specs::Running::run_term_at))]
-    fn run_term(&mut self, site: &Site, rest: Rest, code: &[u8]) -> Result<Term, LoadFault>
-        requires room { HasRoom code.now rest }
-        requires inside { IsInside self.old site.now }
-        ensures bounds { IfOk result (λ x. IsOn rest x) }
-        ensures term { Runs self.old self.new site.now rest code.now result }
-        ensures stays { OnOk result (Stays self.old self.new) }
-    {
-        let (head, behind) = self.read_head(site, rest, code)?;
-        let inner = self.enter(site, &head)?;
-        let position = next_position(rest.position, &head);
-        let node = self.open(&inner, rest.levels, code, head)?;
-        Ok(Term {
-            node,
-            position,
-            behind,
-        })
-    }
-
-    /// The terms of a span, one after the other.
-    #[cycle(runs)]
-    pub fn run_terms(
-        &mut self,
-        site: &Site,
-        rest: Rest,
-        code: &[u8],
-    ) -> Result<Vec<Node>, LoadFault>
-        requires room { HasRoom code.now rest }
-        requires inside { IsInside self.old site.now }
-        ensures runs { RunsAll self.old self.new site.now rest code.now result }
-        ensures stays { OnOk result (Stays self.old self.new) }
-    {
-        let mut found = Vec::new(self.alloc);
-        let mut here = rest;
-        for _turn in rest.at..rest.end {
-            if here.at >= rest.end {
-                return Ok(found);
-            }
-            let term = self.run_term(site, here, code)?;
-            found.push(term.node)?;
-            here = Rest {
-                position: term.position,
-                at: term.behind,
-                ..rest
-            };
-        }
-        Ok(found)
-    }
-
-    /// The terms of a table: what they declare is declared.
-    #[tactic(auto, unfolding(aml_parse::specs::Running::run_table_at))]
-    pub fn run_table(&mut self, table: usize, code: &[u8]) -> Result<Vec<Node>, LoadFault>
-        requires { length code.now ≤ 16777216 }
-        ensures { RunsTable self.old self.new table code.now result }
-    {
-        let root = Site {
-            table,
-            scope: self.space.root(),
-            any_run: true,
-            sure: true,
-        };
-        let whole = Rest {
-            level: 1,
-            levels: MOST_LEVELS,
-            position: Position::RunTerm,
-            at: 0,
-            end: code.len() as u32,
-        };
-        self.run_terms(&root, whole, code)
     }
 }

@@ -1,28 +1,29 @@
 //! What the terms of a table declare.
-ghost use Rattle.std.specs.Prelude.{◌≡◌, ◌∷◌, ◌++◌, [], Option, Some, None, Ok, IfOk, IfSome, OnOk, true, take, length, ◌<◌, map};
-ghost use Rattle.std.specs.Option.{option_copied, ok_or};
+ghost use Rattle.std.specs.Prelude.{◌≡◌, ◌∷◌, [], Option, Some, None, Ok, IfOk, IfSome, OnOk, true, length, ◌<◌, map};
+ghost use Rattle.std.specs.Option.{option_copied};
 ghost use Rattle.std.specs.List.{list_all};
 ghost use Rattle.aml_code.specs.Lawful.{last_label, field_names, plain_name, unit_names};
 ghost use Rattle.aml_code.specs.Tree.{no_fields, field_more};
-ghost use Rattle.aml_code.specs.View.{node_view, nodes_view, parts_view, tail_view, fields_view, field_view};
+ghost use Rattle.aml_code.specs.View.{node_view, parts_view, tail_view, fields_view, field_view};
 ghost use Rattle.aml_namespace.specs.Namespace.{Body, declares, external as outside};
 ghost use Rattle.aml_namespace.specs.Runs.{outlook_of, sure_at, open_in};
 ghost use Rattle.aml_namespace.specs.Kinds.{kind_in, IsAmong};
 ghost use Rattle.aml_namespace.specs.Known.{StandsAt, StandsFor};
 ghost use Rattle.aml_namespace.specs.declared.kinds.Kind.TheVariants.{Alias};
 ghost use Rattle.aml_space.specs.Below.{path_below, path_behind};
-ghost use Rattle.aml_load.specs.Declaring.{under, Listed, plus, with_uses, first_label, byte_of, lead_of, target_of};
+ghost use Rattle.aml_load.specs.Declaring.{Listed, plus, with_uses, first_label, byte_of, lead_of, target_of};
 ghost use Rattle.aml_load.specs.Declaring.{body_span, place_at, lead_at, entry_at, new_at, method_at, alias_at};
-ghost use Rattle.aml_load.specs.Declaring.{external_at, units_at, declare_as, declare, declare_inside, declare_all};
+ghost use Rattle.aml_load.specs.Declaring.{external_at, units_at, declare};
 ghost use Rattle.aml_load.specs.Loading.{method_entry, parent_of, sure_with, plain_entry};
 ghost use Rattle.aml_load.specs.Walking.{at_site, Gives, GivesIn, IsDeclared, Walks, IsInside, Stays, Holds, IsBelow, AreBelow, IsPlain};
 ghost use Rattle.aml_load.specs.Walking.{source_path, source_paths, sure_of};
+ghost use Rattle.aml_load.specs.Groups.{AreKnown, uses_of};
+ghost use Rattle.aml_load.specs.Hearing.{with_more};
 
 use crate::faults::LoadFault;
-use crate::groups::{Group, add_group};
-use crate::roles::{kind_of, role_of};
+use crate::groups::{Group, add_group, add_groups};
 use crate::uses::{Site, add_names};
-use aml_code::{Field, Name, NoMemory, Node, Part, Role, Seg, Tail, last_byte, last_name};
+use aml_code::{Field, Name, NoMemory, Node, Part, Seg, Tail, last_byte, last_name};
 use aml_set::Method;
 use aml_space::{Below, Kind, PathId, Space, SpaceFault};
 use std::alloc::Global;
@@ -533,6 +534,22 @@ impl Progress {
 }
 
 impl Progress {
+    /// Adds names that were asked, and leaves none.
+    pub fn keep_uses(&mut self, uses: &mut Vec<Group>) -> Result<(), NoMemory>
+        requires { AreKnown self.old.space uses.old.items }
+        ensures holds { OnOk result ((l : Listed) → Holds self.old l →
+            Holds self.new (with_more l (uses_of self.old.space uses.old.items))) }
+        ensures none { OnOk result (uses.new.items ≡ []) }
+        ensures space { self.new.space ≡ self.old.space }
+    {
+        if uses.is_empty() {
+            return Ok(());
+        }
+        add_groups(&mut self.uses, uses)
+    }
+}
+
+impl Progress {
     /// Adds the names that stand as TermArgs in a term, or as the term, outside the terms inside it.
     pub fn ask(&mut self, site: &Site, term: &Node) -> Result<(), NoMemory>
         requires { IsInside self.old site.now }
@@ -543,120 +560,5 @@ impl Progress {
         let mut names = Vec::new(self.alloc);
         add_names(site.table, term, &mut names)?;
         add_group(&mut self.uses, site.scope, names)
-    }
-}
-
-impl Progress {
-    /// Declares what a term declares, and what the terms inside it declare.
-    #[cycle(walk)]
-    #[tactic(auto, unfolding(crate::specs::Declaring::declare))]
-    fn walk(&mut self, site: &Site, node: &Node) -> Result<(), LoadFault>
-        requires { IsInside self.old site.now }
-        ensures walks { Walks self.old self.new result (λ l. declare (at_site self.old.space site.now) l (node_view node.now)) }
-        ensures stays { OnOk result (Stays self.old self.new) }
-    {
-        match node {
-            Node::Nothing | Node::Named { .. } => Ok(()),
-            Node::Op {
-                opcode,
-                parts,
-                tail,
-                ..
-            } => {
-                self.ask(site, node)?;
-                self.walk_role(site, role_of(*opcode), tail, parts.as_slice())
-            }
-        }
-    }
-
-    /// Does what a role does.
-    #[cycle(walk)]
-    #[tactic(auto, unfolding(crate::specs::Declaring::declare_as, crate::specs::Declaring::declare_inside))]
-    fn walk_role(
-        &mut self,
-        site: &Site,
-        role: Role,
-        tail: &Tail,
-        parts: &[Part],
-    ) -> Result<(), LoadFault>
-        requires { IsInside self.old site.now }
-        ensures walks { Walks self.old self.new result (λ l.
-            declare_as role (at_site self.old.space site.now) l (parts_view parts.now) (tail_view tail.now)
-            (λ l below. declare_inside below l (tail_view tail.now))) }
-        ensures stays { OnOk result (Stays self.old self.new) }
-    {
-        match role {
-            Role::Declares(object) => {
-                let path = self.own_path(site, last_name(parts))?;
-                match tail {
-                    Tail::Terms(terms) => {
-                        self.declare(site, &path, kind_of(object))?;
-                        self.walk_below(site, &path, terms.as_slice())
-                    }
-                    _ => self.declare(site, &path, kind_of(object)),
-                }
-            }
-            Role::Method => self.add_method(site, parts, tail),
-            Role::Scope => {
-                self.expect_search(site, last_name(parts));
-                let path = self.scope_path(site, last_name(parts))?;
-                match tail {
-                    Tail::Terms(terms) => self.walk_below(site, &path, terms.as_slice()),
-                    _ => Ok(()),
-                }
-            }
-            Role::Alias => self.add_alias(site, parts),
-            Role::External => self.add_external(site, parts),
-            Role::Fields => self.add_units(site, tail),
-            Role::Guard => self.walk_inside(site, tail),
-            Role::Other => Ok(()),
-        }
-    }
-
-    /// Declares what these terms declare, whose scope is this path.
-    #[cycle(walk)]
-    fn walk_below(&mut self, site: &Site, path: &Below<'_>, terms: &[Node]) -> Result<(), LoadFault>
-        requires inside { IsInside self.old site.now }
-        requires below { IsBelow self.old.space path.now }
-        ensures walks { Walks self.old self.new result (λ l.
-            declare_all (under (at_site self.old.space site.now) (path_below self.old.space.paths path.now)) l (nodes_view terms.now)) }
-        ensures stays { OnOk result (Stays self.old self.new) }
-    {
-        // A scope without terms needs no number.
-        if terms.is_empty() {
-            return Ok(());
-        }
-        let scope = self.number(path)?;
-        self.walk_all(&Site { scope, ..*site }, terms)
-    }
-
-    /// Declares what the terms inside a term declare.
-    #[cycle(walk)]
-    #[tactic(auto, unfolding(crate::specs::Declaring::declare_inside))]
-    fn walk_inside(&mut self, site: &Site, tail: &Tail) -> Result<(), LoadFault>
-        requires { IsInside self.old site.now }
-        ensures walks { Walks self.old self.new result (λ l.
-            declare_inside (at_site self.old.space site.now) l (tail_view tail.now)) }
-        ensures stays { OnOk result (Stays self.old self.new) }
-    {
-        match tail {
-            Tail::Terms(terms) => self.walk_all(site, terms.as_slice()),
-            _ => Ok(()),
-        }
-    }
-
-    /// Declares what these terms declare, in the order of the text.
-    #[cycle(walk)]
-    #[tactic(auto, unfolding(crate::specs::Declaring::declare_all))]
-    pub fn walk_all(&mut self, site: &Site, terms: &[Node]) -> Result<(), LoadFault>
-        requires { IsInside self.old site.now }
-        ensures walks { Walks self.old self.new result (λ l.
-            declare_all (at_site self.old.space site.now) l (nodes_view terms.now)) }
-        ensures stays { OnOk result (Stays self.old self.new) }
-    {
-        for term in terms {
-            self.walk(site, term)?;
-        }
-        Ok(())
     }
 }

@@ -4,6 +4,7 @@ pub mod FlatReads
 pub mod Bodiless
 pub mod Took
 pub mod TellLaws
+pub mod BuiltLaws
 pub mod Leads
 pub mod ReadLaws
 pub mod Again
@@ -13,8 +14,6 @@ pub mod Steps
 pub mod OneWay
 pub mod PrefixLaws
 pub mod Loops
-pub mod Bare
 pub mod Opened
-pub mod Views
 pub mod Forward
 pub mod Kept

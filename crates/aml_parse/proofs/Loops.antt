@@ -2,12 +2,8 @@
 use Rattle.aml_parse.proofs.Common.{◌≡◌, ℕ, zero, suc, ◌-◌, ◌<◌, List, [], ◌∷◌, ◌++◌, length, Result, Ok, Err, refl}
 use Rattle.aml_parse.proofs.Common.{sym, ap, ◌∙◌, arith, inl, inr, CodeFault}
 use Rattle.aml_parse.proofs.Common.{PathSet, ◌>>=◌, Fails, PartKind, Position, Tree, Trees, no_trees, tree_more, Parts}
-use Rattle.aml_parse.proofs.Common.{no_parts, part_more, no_fields}
-use Rattle.aml_parse.proofs.Common.{field_more, node_view, nodes_view, part_view, parts_view, field_view, fields_view}
-use Rattle.aml_parse.proofs.Common.{read_on}
-use Rattle.aml_code.specs.declared.tree.Field.{Field}
+use Rattle.aml_parse.proofs.Common.{no_parts, part_more, node_view, nodes_view, read_on}
 use Rattle.aml_code.specs.declared.tree.Node.{Node}
-use Rattle.aml_code.specs.declared.tree.Part.{Part}
 use Rattle.aml_code.specs.Tree.{Part as AnyPart}
 use Rattle.aml_parse.specs.Reading.{Reader, ReaderToEnd, part_at, parts_at, arguments_at, to_end_at}
 
@@ -43,14 +39,6 @@ module _ {X A AS : Type 0} (see : X → A) (more : A → AS → AS) where
 pub nodes_found : (front : List Node) → onto node_view tree_more front no_trees ≡ nodes_view front
 nodes_found [] = refl
 nodes_found (n ∷ front) = ap (tree_more (node_view n)) (nodes_found front)
-
-pub parts_found : (front : List Part) → onto part_view part_more front no_parts ≡ parts_view front
-parts_found [] = refl
-parts_found (p ∷ front) = ap (part_more (part_view p)) (parts_found front)
-
-pub fields_found : (front : List Field) → onto field_view field_more front no_fields ≡ fields_view front
-fields_found [] = refl
-fields_found (f ∷ front) = ap (field_more (field_view f)) (fields_found front)
 
 -- ---- parts
 

@@ -3,7 +3,7 @@
 -- answers. What it means that code reads as terms is said without it, by `ReadsModule` and `ReadsBody` of aml_code, and
 -- what a fault says of the byte at its offset by `StandsAt`.
 use Rattle.std.specs.Prelude.{◌≡◌, ℕ, zero, suc, ◌+◌, ◌-◌, Bool, true, false, ◌==◌, if◌then◌else◌, nat_lt, List, []}
-use Rattle.std.specs.Prelude.{◌∷◌, ◌++◌, length, take, drop, position, Option, Some, None, Result, Ok, Err}
+use Rattle.std.specs.Prelude.{◌∷◌, length, take, drop, position, Option, Some, None, Result, Ok, Err}
 use Rattle.std.specs.Prelude.{ok_or}
 use Rattle.std.specs.FinSet as set
 use Rattle.aml_names.specs.declared.faults.CodeFault.{CodeFault}
@@ -25,7 +25,6 @@ use Rattle.aml_code.specs.Tree.{field_more, Link, target, buffer, slice_of}
 use Rattle.aml_code.specs.Lawful.{names_declared, with_declared, count_in, is_guard, terms_in, tail_in, next_position}
 use Rattle.aml_code.specs.Faults.{Arities, most_levels}
 use Rattle.aml_parse.specs.declared.positions.Lead.{Lead}
-use Rattle.aml_parse.specs.declared.parser.Parser.{Parser}
 
 -- A reader is handed where the innermost span ends, the paths declared so far and what is left of the span. It answers
 -- what it read, the paths declared then, and what is left.
@@ -318,14 +317,3 @@ unfoldable pub step_at : Arities → ℕ → Position → List ℕ → ℕ → �
 step_at arity levels p code at end = do
   x ← read_at arity None levels p end set.empty (slice_of code at (end - at))
   Ok (x.0, end - length x.2)
-
--- ---- A stepping stone of the proofs: what a parser takes along, as contracts see it.
-
--- what was added to some elements, seen by a view, is what reading gives, with the paths declared then and what is left
-abbrev pub Adds : {X A : Type 0} → (X → A) → List X → List X → PathSet → List ℕ
-    → Result (A × PathSet × List ℕ) CodeFault → Type 0
-Adds {X = X} see old new ls rest read = (x : X) × ((new ≡ old ++ x ∷ []) × (read ≡ Ok (see x, ls, rest)))
-
--- a term, as a parser reads it
-abbrev pub read_in : {N : Type 0} → (N → Arities) → (N → Option (List Seg)) → Parser N → Position → Reader Tree
-read_in arity scope p = read_at (arity p.names.now) (scope p.names.now) p.levels

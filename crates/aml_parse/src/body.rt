@@ -9,8 +9,8 @@ ghost use Rattle.aml_code.specs.Tree.{Trees};
 ghost use Rattle.aml_code.specs.View.{nodes_view};
 ghost use Rattle.aml_parse.specs.Reading.{all_at};
 
-use crate::parser::{MOST_LEVELS, Parser};
-use crate::room::without_room;
+use crate::builder::Builder;
+use crate::told::tell_terms;
 use aml_code::{Arity, CodeFault, Locals, Name, Names, NoMemory, Node, Path, Position, place};
 use std::alloc::Global;
 
@@ -56,15 +56,9 @@ pub fn body_terms<N: Names>(alloc: Global, code: &[u8], names: &N) -> Result<Vec
     ensures { Gives (λ x. nodes_view x.items) result
         (all_at (N.arity names.now) (N.scope names.now) Position.BodyTerm code.now) }
 {
-    let parser = Parser {
-        alloc,
-        names,
-        levels: MOST_LEVELS,
-    };
-    let mut locals = names.no_locals(alloc);
-    let end = code.len() as u32;
-    let nodes = parser.terms(Position::BodyTerm, end, &mut locals, code)?;
-    Ok(without_room(nodes))
+    let mut builder = Builder::new(alloc);
+    tell_terms(alloc, code, names, 0, &mut builder)?;
+    Ok(builder.into_nodes())
 }
 
 /// The terms of a method's body, which `code` holds whole. How many arguments a name takes is asked of `arity`, by the

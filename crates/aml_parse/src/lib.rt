@@ -4,6 +4,7 @@
 #![tactic(auto)]
 
 mod body;
+mod builder;
 mod flat;
 mod module;
 mod packages;
@@ -23,5 +24,6 @@ pub use body::{body_terms, parse_body};
 pub use module::{parse_module, tell_module};
 pub use positions::next_position;
 pub use running::{reads_forward, reads_one_way, spells_table};
-pub use step::{StepAt, read_step, tell_step};
+pub use step::{Behind, StepAt, read_step, tell_step};
+pub use terms::TableTerms;
 pub use told::{tell_body, tell_terms};

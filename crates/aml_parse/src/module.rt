@@ -10,8 +10,8 @@ ghost use Rattle.aml_code.specs.Tree.{Trees};
 ghost use Rattle.aml_code.specs.View.{nodes_view};
 ghost use Rattle.aml_parse.specs.Reading.{all_at};
 
+use crate::builder::Builder;
 use crate::parser::{MOST_LEVELS, Parser};
-use crate::room::without_room;
 use crate::tell::Here;
 use aml_code::{CodeFault, Name, Names, NoMemory, Node, Position, Sink};
 use std::alloc::Global;
@@ -61,15 +61,9 @@ fn module_terms(alloc: Global, code: &[u8]) -> Result<Vec<Node>, CodeFault>
     requires { length code.now < 2 ^ 32 }
     ensures { Gives (λ x. nodes_view x.items) result (all_at no_arguments None Position.ModuleTerm code.now) }
 {
-    let parser = Parser {
-        alloc,
-        names: &NoArguments,
-        levels: MOST_LEVELS,
-    };
-    let mut locals = Nothing;
-    let end = code.len() as u32;
-    let nodes = parser.terms(Position::ModuleTerm, end, &mut locals, code)?;
-    Ok(without_room(nodes))
+    let mut builder = Builder::new(alloc);
+    tell_module_terms(alloc, code, 0, &mut builder)?;
+    Ok(builder.into_nodes())
 }
 
 /// The terms of a table's AML, which `code` holds whole. The body of a method isn't read: its tail is the span of
@@ -112,7 +106,6 @@ fn tell_module_terms<S: Sink>(
     let parser = Parser {
         alloc,
         names: &NoArguments,
-        levels: MOST_LEVELS,
     };
     let end = code.len() as u32;
     let here = Here {

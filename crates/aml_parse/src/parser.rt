@@ -1,29 +1,23 @@
 //! What all readers of terms take along.
 ghost use Rattle.std.specs.Prelude.{◌≡◌, ◌∷◌, [], None, IfOk, OnOk, map, option_to_list, ok_or};
 ghost use Rattle.aml_names.specs.NameReading.{Gives};
-ghost use Rattle.aml_code.specs.Tree.{no_fields, field_more, Parts as AnyParts, Tail as AnyTail};
-ghost use Rattle.aml_code.specs.Lawful.{field_names, last_label, names_declared, unit_names, with_declared};
-ghost use Rattle.aml_code.specs.Lawful.{count_in, plain_name};
-ghost use Rattle.aml_code.specs.View.{field_view, fields_view, parts_view, tail_view};
+ghost use Rattle.aml_code.specs.Tree.{Parts as AnyParts, Tail as AnyTail};
+ghost use Rattle.aml_code.specs.Lawful.{last_label, names_declared, with_declared, count_in, plain_name};
 ghost use Rattle.aml_parse.specs.Kept.{with_each};
 ghost use Rattle.aml_parse.specs.Telling.{AreUnits, label_at};
 
-use aml_code::{
-    CodeFault, Field, Name, Names, NoMemory, Part, Position, Role, Seg, Tail, last_name,
-};
+use aml_code::{CodeFault, Name, Names, NoMemory, Position, Role, Seg};
 use aml_names::name_of;
 use std::alloc::{AllocError, Global};
 
 /// The most levels of terms inside each other.
 pub const MOST_LEVELS: u16 = 512;
 
-/// A reader of terms: it asks `names` how many arguments names take, which keep those that the terms declare, and takes
-/// so many levels of terms inside each other.
+/// A reader of terms: it asks `names` how many arguments names take, which keep those that the terms declare.
 #[derive(Drop)]
 pub struct Parser<'a, N> {
     pub alloc: Global,
     pub names: &'a N,
-    pub levels: u16,
 }
 
 impl<'a, N: Names> Parser<'a, N> {
@@ -53,33 +47,11 @@ impl<'a, N: Names> Parser<'a, N> {
         }
     }
 
-    /// Keeps the names that a term declares itself.
-    #[tactic(auto, using(crate::proofs::Kept::each_declared))]
-    pub fn declare(
-        &self,
-        role: Role,
-        parts: &[Part],
-        tail: &Tail,
-        locals: &mut N::Locals,
-    ) -> Result<(), NoMemory>
-        requires { N.fits self.now.names.now locals.old }
-        ensures declared { OnOk result (N.paths self.now.names.now locals.new ≡ with_declared
-            (N.scope self.now.names.now) (N.paths self.now.names.now locals.old)
-            (names_declared role (parts_view parts.now) (tail_view tail.now))) }
-        ensures fits { N.fits self.now.names.now locals.new }
-    {
-        match role {
-            Role::Declares(_) | Role::Method | Role::Alias => self.declare_last(parts, locals),
-            Role::Fields => self.declare_units(tail, locals),
-            Role::Scope | Role::External | Role::Guard | Role::Other => Ok(()),
-        }
-    }
-
-    /// The same of a term of whose parts the last name begins at `label`, in a span that ends at `end`, and of whose tail
-    /// the named units have these segments.
+    /// Keeps the names that a term declares itself, of whose parts the last name begins at `label`, in a span that ends
+    /// at `end`, and of whose tail the named units have these segments.
     #[inline(always)]
     #[tactic(auto, using(crate::proofs::Kept::each_declared))]
-    pub fn declare_told(
+    pub fn declare(
         &self,
         role: Role,
         end: u32,
@@ -143,59 +115,6 @@ impl<'a, N: Names> Parser<'a, N> {
     {
         let name = Name::plain(self.alloc, seg)?;
         self.names.declare(self.alloc, locals, &name)
-    }
-
-    /// Keeps the last part that is a name.
-    fn declare_last(&self, parts: &[Part], locals: &mut N::Locals) -> Result<(), NoMemory>
-        requires { N.fits self.now.names.now locals.old }
-        ensures declared { OnOk result (N.paths self.now.names.now locals.new ≡ with_each
-            (N.scope self.now.names.now) (N.paths self.now.names.now locals.old)
-            (option_to_list (last_label None (parts_view parts.now)))) }
-        ensures fits { N.fits self.now.names.now locals.new }
-    {
-        match last_name(parts) {
-            None => Ok(()),
-            Some(name) => self.names.declare(self.alloc, locals, name),
-        }
-    }
-
-    /// Keeps the named units of a field list.
-    fn declare_units(&self, tail: &Tail, locals: &mut N::Locals) -> Result<(), NoMemory>
-        requires { N.fits self.now.names.now locals.old }
-        ensures declared { OnOk result (N.paths self.now.names.now locals.new ≡ with_each
-            (N.scope self.now.names.now) (N.paths self.now.names.now locals.old) (field_names (tail_view tail.now))) }
-        ensures fits { N.fits self.now.names.now locals.new }
-    {
-        match tail {
-            Tail::Fields(fields) => self.declare_fields(fields.as_slice(), locals),
-            _ => Ok(()),
-        }
-    }
-
-    fn declare_fields(&self, fields: &[Field], locals: &mut N::Locals) -> Result<(), NoMemory>
-        requires { N.fits self.now.names.now locals.old }
-        ensures declared { OnOk result (N.paths self.now.names.now locals.new ≡ with_each
-            (N.scope self.now.names.now) (N.paths self.now.names.now locals.old) (unit_names (fields_view fields.now))) }
-        ensures fits { N.fits self.now.names.now locals.new }
-    {
-        for field in fields {
-            self.declare_field(field, locals)?;
-        }
-        Ok(())
-    }
-
-    /// Keeps a named unit.
-    fn declare_field(&self, field: &Field, locals: &mut N::Locals) -> Result<(), NoMemory>
-        requires { N.fits self.now.names.now locals.old }
-        ensures declared { OnOk result (N.paths self.now.names.now locals.new ≡ with_each
-            (N.scope self.now.names.now) (N.paths self.now.names.now locals.old)
-            (unit_names (field_more (field_view field.now) no_fields))) }
-        ensures fits { N.fits self.now.names.now locals.new }
-    {
-        match field {
-            Field::NamedUnit { seg, .. } => self.declare_segment(*seg, locals),
-            _ => Ok(()),
-        }
     }
 }
 

@@ -10,10 +10,13 @@ ghost use Rattle.aml_code.specs.declared.rows.Position.{Position};
 ghost use Rattle.aml_parse.specs.Reading.{Reader, held, count_part, text_part, segmented_at, part_at};
 ghost use Rattle.aml_parse.specs.Telling.{TellsPart, TellsFlat, IsLabel, IsPlain, is_flat, label_at};
 
-use crate::flat::{MOST_ARGUMENTS, one_of, segmented_of, text_of};
+use crate::flat::{one_of, segmented_of, text_of};
 use aml_code::{CodeFault, PartKind, Piece, Sink, little_of, offset_of};
 use aml_names::name_of;
 use std::alloc::Global;
+
+/// The most arguments that an External tells.
+const MOST_ARGUMENTS: u64 = 7;
 
 /// A number of one byte.
 #[inline(always)]

@@ -76,7 +76,7 @@ struct Packed<'r> {
 }
 
 /// Where the term after a term of a list stands, by whether that is an If.
-fn position_after(position: Position, is_if: bool) -> Position
+pub fn position_after(position: Position, is_if: bool) -> Position
     ensures { (t : Tree) → is_if ≡ has_opcode 0xA0 t → result ≡ next_position position t }
 {
     match position {
@@ -307,7 +307,7 @@ impl<'a, N: Names> Parser<'a, N> {
         let (label, rest) = self.tell_parts(row.parts, here, end, locals, sink, bytes)?;
         sink.tell(Piece::EndOfParts(row))?;
         sink.tell(Piece::Empty)?;
-        self.declare_told(row.role, end, label, &[], locals)?;
+        self.declare(row.role, end, label, &[], locals)?;
         Ok((row.opcode == IF, rest))
     }
 
@@ -343,7 +343,7 @@ impl<'a, N: Names> Parser<'a, N> {
         let (label, rest) = self.tell_parts(row.parts, here, inner, locals, sink, inside)?;
         sink.tell(Piece::EndOfParts(row))?;
         let units = self.tell_tail(found, here, inner, locals, sink, rest)?;
-        self.declare_told(row.role, inner, label, units.as_slice(), locals)?;
+        self.declare(row.role, inner, label, units.as_slice(), locals)?;
         Ok((row.opcode == IF, behind))
     }
 

@@ -29,11 +29,7 @@ pub fn tell_terms<N: Names, S: Sink>(
     ensures fails { IfErr result (λ fault. Fails fault
         (all_at (N.arity names.now) (N.scope names.now) Position.BodyTerm code.now)) }
 {
-    let parser = Parser {
-        alloc,
-        names,
-        levels: MOST_LEVELS,
-    };
+    let parser = Parser { alloc, names };
     let mut locals = names.no_locals(alloc);
     let end = code.len() as u32;
     let here = Here {

@@ -29,8 +29,8 @@ pub struct Tables<'s, 'a> {
 }
 
 impl<'s, 'a> Tables<'s, 'a> {
-    /// Of tables that keep their terms.
-    pub fn with_terms(dumps: &'s [Dump], set: &'s TableSet<'a>) -> Tables<'s, 'a>
+    /// Of tables of whose texts nothing is kept.
+    pub fn without_texts(dumps: &'s [Dump], set: &'s TableSet<'a>) -> Tables<'s, 'a>
         ensures dumps { result.dumps.now ≡ dumps.now }
         ensures set { result.set.now ≡ set.now }
         ensures texts { result.texts.now ≡ [] }

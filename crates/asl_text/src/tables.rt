@@ -213,10 +213,10 @@ pub struct TableTexts {
     pub alloc: Global,
 }
 
-/// How many bytes of text are kept of so many bytes of AML: more than 32 for each would take as much memory as the
+/// How many bytes of text are kept of a table: more than 32 for each byte of its AML would take as much memory as the
 /// terms.
-fn most_of(bytes: usize) -> usize {
-    bytes.saturating_mul(32)
+fn most_of(code: &[u8]) -> usize {
+    code.len().saturating_mul(32)
 }
 
 impl TableSink for TableTexts {
@@ -225,13 +225,13 @@ impl TableSink for TableTexts {
 
     type Kept = Option<TableText>;
 
-    ghost keeps = { λ _ ps kept. IfSome kept (IsMade ps) };
+    ghost keeps = { λ _ _ ps kept. IfSome kept (IsMade ps) };
 
     fn take<T: Telling>(
         &self,
-        bytes: usize,
+        code: &[u8],
         telling: T,
     ) -> Result<(T::Made, Option<TableText>), T::Fault> {
-        told_table(self.alloc, most_of(bytes), telling)
+        told_table(self.alloc, most_of(code), telling)
     }
 }

@@ -1,4 +1,11 @@
+use Rattle.acpidis.proofs.TrialLaws.{tried_set}
 use Rattle.acpidis.proofs.running.run_checks.Goals as goal
 
+pub print_trials-ended-requires-clause-set : goal.print_trials-ended-requires-clause-set
+print_trials-ended-requires-clause-set g c =
+    rw (c.without_texts.ensures.dumps, c.without_texts.ensures.set)
+    (tried_set (record { alloc = c.args.crew.now.alloc }) c.args.dumps.now c.args.options.now c.in_ok-set.set c.in_ok-set.checks.items
+    c.in_ok-set.ensures.set)
+
 pub print_trials-ended-requires-clause-kept : goal.print_trials-ended-requires-clause-kept
-print_trials-ended-requires-clause-kept g c = rw (c.with_terms.ensures.set, c.as_slice.ensures.value) c.in_ok-found.ensures.kept
+print_trials-ended-requires-clause-kept g c = rw (c.without_texts.ensures.set, c.as_slice.ensures.value) c.in_ok-found.ensures.kept

@@ -18,19 +18,19 @@ use Rattle.aml_load.proofs.Checked.{checked_gives}
 use Rattle.aml_load.proofs.loading.hear_each.Goals as goal
 
 -- the set, with what is kept of its tables
-module _ {S K : Type 0} (keeps : S → List Told → K → Type 0) (s : S) (kept : Vec K Global) where
+module _ {S K : Type 0} (keeps : S → List ℕ → List Told → K → Type 0) (s : S) (kept : Vec K Global) where
   abbrev HoldsIt : TableSet → List (List ℕ) → List Trees → List Entry → Type 0
   HoldsIt x codes trees es = HoldsKept keeps s (x, kept) codes trees es
 
   gives : (any z : Bool) (gs : Givens) (ts tables : List Table) (answer : Result TableSet LoadFault) (trees : List Trees) (m : Listed)
-      → ts ≡ tables → AreKeptOf keeps s trees kept.items → tables_at any 0 [] (first_listed gs) (table_codes ts) ≡ Ok (trees, m)
+      → ts ≡ tables → AreKeptOf keeps s (table_codes ts) trees kept.items → tables_at any 0 [] (first_listed gs) (table_codes ts) ≡ Ok (trees, m)
       → IfOk answer (λ x. x.tables.items ≡ tables) → IsChecked answer m (uses_at any z m.entries m.uses)
       → GivesBy HoldsIt any z gs answer (table_codes tables)
   gives any z gs ts tables answer trees m is are read same checked =
       checked_gives any z gs (table_codes tables) HoldsIt tables answer trees m
       (λ x same stands methods. record {
         names = record { tables = ap table_codes same; space = stands; methods = methods };
-        kept = are;
+        kept = subst (λ xs. AreKeptOf keeps s (table_codes xs) trees kept.items) is are;
       }) (subst (λ xs. tables_at any 0 [] (first_listed gs) (table_codes xs) ≡ Ok (trees, m)) is read) same checked
 
 pub returns-clause-gives : goal.returns-clause-gives

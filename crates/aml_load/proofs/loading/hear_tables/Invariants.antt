@@ -1,4 +1,4 @@
-use Rattle.std.proofs.Common.{◌≡◌, [], List, drop}
+use Rattle.std.proofs.Common.{◌≡◌, [], List, drop, length, take}
 use Rattle.aml_code.specs.Tree.{Trees}
 use Rattle.aml_load.specs.Declaring.{Listed}
 use Rattle.aml_load.specs.Kept.{AreKeptOf}
@@ -8,7 +8,8 @@ use Rattle.aml_set.specs.Views.{table_codes}
 use Rattle.aml_load.proofs.loading.hear_tables.Given as goal
 
 abbrev pub invariant-loop-number : goal.invariant-loop-number
-invariant-loop-number g x = (trees : List Trees) × (AreKeptOf g.S.TableSink.keeps x.sink trees x.kept.items
+invariant-loop-number g x = (length x.kept.items ≡ x.number) × ((trees : List Trees)
+    × (AreKeptOf g.S.TableSink.keeps x.sink (take x.number (table_codes x.tables)) trees x.kept.items
     × ((l : Listed) → Holds x.initial.heard l → (m : Listed) × Holds x.heard m
     × (tables_at x.any_run x.number trees m (drop x.number (table_codes x.tables))
-    ≡ tables_at x.any_run 0 [] l (table_codes x.tables))))
+    ≡ tables_at x.any_run 0 [] l (table_codes x.tables)))))

@@ -1,9 +1,10 @@
-use Rattle.aml_parse.proofs.Common.{Ok, ap, ◌>>=◌}
+use Rattle.aml_parse.proofs.Common.{Ok, Trees, ap, sym, ◌∙◌}
+use Rattle.aml_parse.proofs.BuiltLaws.{nodes_built}
 use Rattle.aml_parse.proofs.body.body_terms.Goals as goal
-use Rattle.aml_parse.specs.Reading.{all_at}
 
 pub returns : goal.returns
-unfolding all_at
 returns g c =
-    rw c.without_room.ensures
-    (ap (λ r. r >>= λ ts. Ok ts.0) (rw c.no_locals-locals.ensures.paths at c.in_ok-nodes.ensures.read))
+    let told = c.in_ok-tell_terms.ensures.told in
+    let nodes =
+    nodes_built 0 c.new-builder.result c.tell_terms.new.sink c.new-builder.ensures told.0 _ told.1.1 c.into_nodes.ensures in
+    told.1.0 ∙ ap (λ (ts : Trees). Ok ts) (sym nodes)

@@ -1,4 +1,4 @@
-use Rattle.std.proofs.Common.{◌≡◌, [], ◌∷◌, false, Option, Some, None, Result, is_some, sym, ap, ◌∙◌}
+use Rattle.std.proofs.Common.{◌≡◌, [], ◌∷◌, true, false, Option, Some, None, Result, is_some, sym, ap, ◌∙◌}
 use Rattle.aml_code.specs.Pieces.{Told, piece_view}
 use Rattle.aml_load.specs.Declaring.{◌>>=◌}
 use Rattle.aml_load.specs.Hearing.{Heard, hear, hear_all}
@@ -9,13 +9,13 @@ use Rattle.aml_load.proofs.hearer.Hearer.take.Goals as goal
 
 -- a piece behind what was heard
 said_on : (old new : Hearing) (f : Option LoadFault) (p : Told) (r : Result Heard LoadFault) → is_some f ≡ false
-    → Hears old new (hear p) → Says (old, f) r → Says (new, f) (r >>= λ x. hear_all (p ∷ []) x)
+    → Hears old new (hear true p) → Says (old, f) r → Says (new, f) (r >>= λ x. hear_all true (p ∷ []) x)
 said_on old new None p r still one (l, h, is) =
     let a = one.heard l h in (
       a.0,
       a.1,
-      ap (λ (r : Result Heard LoadFault). r >>= λ x. hear_all (p ∷ []) x) is
-          ∙ ap (λ (r : Result Heard LoadFault). r >>= λ y. hear_all [] y) a.2,
+      ap (λ (r : Result Heard LoadFault). r >>= λ x. hear_all true (p ∷ []) x) is
+          ∙ ap (λ (r : Result Heard LoadFault). r >>= λ y. hear_all true [] y) a.2,
     )
 said_on old new (Some e) p r still one says = absurd cc
 

@@ -27,9 +27,10 @@ ended_ok w made (Ok m) (x, h, is) =
     (m, subst (Holds made) (sym (ap (λ (x : Heard). x.listed) same)) h, refl)
 ended_ok w made (Err e) (x, h, is) = absurd cc
 
-ended_err : (w : Where) (e : LoadFault) (d : Result Listed LoadFault) → Ended (Err e) (behind_terms w [] d) → d ≡ Err e
-ended_err w e (Ok m) is = absurd cc
-ended_err w e (Err d) is = let same : d ≡ e = cc in ap Err same
+ended_err : (w : Where) (e : LoadFault) (d : Result Listed LoadFault) → Ended (Err e) (behind_terms w [] d) → Fails e d
+ended_err w e d (inl want) = inl want
+ended_err w e (Ok m) (inr is) = absurd cc
+ended_err w e (Err d) (inr is) = let same : d ≡ e = cc in inr (ap Err same)
 
 if_ok : (r : Result Progress LoadFault) (F : Progress → Type 0) → ((made : Progress) → r ≡ Ok made → F made) → IfOk r F
 if_ok (Ok made) F f = f made refl
@@ -51,8 +52,9 @@ module _ (t : ℕ) (l : Listed) (code : List ℕ) (ts : Trees) (reads : all_at n
   table_ok : (m : Listed) → declare_all (strict t []) l ts ≡ Ok m → table_at false t l code ≡ Ok (ts, m)
   table_ok m is = table_is ∙ ap then is
 
-  table_err : (e : LoadFault) → declare_all (strict t []) l ts ≡ Err e → Fails e (table_at false t l code)
-  table_err e is = inr (table_is ∙ ap then is)
+  table_err : (e : LoadFault) → Fails e (declare_all (strict t []) l ts) → Fails e (table_at false t l code)
+  table_err e (inl want) = inl want
+  table_err e (inr is) = inr (table_is ∙ ap then is)
 
 pub returns-in-Ok-clause-told : goal.returns-in-Ok-clause-told
 returns-in-Ok-clause-told g c =

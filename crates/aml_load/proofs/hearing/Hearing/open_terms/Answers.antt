@@ -1,12 +1,14 @@
-use Rattle.std.proofs.Common.{◌≡◌, ◌∷◌, Option, Some, None, Result, Ok, refl, sym, ap, subst, ◌∙◌}
+use Rattle.std.proofs.Common.{◌≡◌, ◌∷◌, List, Option, Some, None, Result, Ok, refl, sym, ap, ◌∙◌}
 use Rattle.std.specs.Option.{option_map}
 use Rattle.aml_load.specs.Declaring.{◌>>=◌, Listed}
-use Rattle.aml_load.specs.Hearing.{Head, Heard, enter, entered_by, inside_by}
+use Rattle.aml_load.specs.Groups.{uses_of}
+use Rattle.aml_load.specs.Hearing.{Head, Heard, enter, entered_by, inside_by, with_more}
 use Rattle.aml_load.specs.HearingViews.{head_view, heard_by, finish_by}
 use Rattle.aml_load.specs.Loading.{Where}
-use Rattle.aml_load.specs.Walking.{Holds, at_site}
+use Rattle.aml_load.specs.Walking.{at_site}
 use Rattle.aml_load.specs.declared.faults.LoadFault.{LoadFault}
-use Rattle.aml_load.specs.declared.walking.Progress.{Progress}
+use Rattle.aml_load.specs.declared.groups.Group.{Group}
+use Rattle.aml_load.proofs.HearingLaws.{more_none}
 use Rattle.aml_load.proofs.hearing.Hearing.open_terms.Goals as goal
 
 -- by what the term does
@@ -28,21 +30,23 @@ inside_is (Some h) l m o x is at e =
 pub returns-clause-hears : goal.returns-clause-hears
 returns-clause-hears c =
     let old = c.args.self.now in
-    let k = old.progress.space in
     let mid = c.finish.new.self in
+    let k = mid.progress.space in
     let done = c.in_ok-site.ensures.finishes in
-    let goes = c.in_ok-go_in.ensures in
-    let site = option_map (at_site mid.progress.space) c.in_ok-site.site in
+    let goes = c.in_ok-go_in.ensures k (c.terms_at.ensures.numbered k done.inside) in
+    let site = option_map (at_site k) c.in_ok-site.site in
     record {
       heard = λ l h.
-          let a = done.entered l h in (
+          let x = heard_by old l in
+          let a = done.entered l h in
+          let listed = ap (λ (us : List Group). with_more a.0 (uses_of k us)) done.uses ∙ more_none a.0 in (
             a.0,
-            subst (λ (p : Progress). Holds p a.0) (sym goes.progress) a.1,
-            inside_is (option_map (head_view k) old.head) l a.0 site (heard_by old l) refl refl a.2
-                ∙ sym (ap Ok (goes.heard a.0) ∙ (λ i. Ok (record {
-                  listed = a.0;
-                  term = option_map (head_view mid.progress.space) (done.head i);
-                  around = c.terms_at.ensures.around mid.progress.space i ∷ done.around i;
+            a.1,
+            inside_is x.term x.listed a.0 site x refl refl a.2
+                ∙ sym (ap Ok (goes.heard a.0 ∙ (λ i. record {
+                  listed = listed i;
+                  term = option_map (head_view k) (done.head i);
+                  around = c.terms_at.ensures.around k i ∷ done.around i;
                 }))),
           );
       numbered = goes.numbered done.numbered;

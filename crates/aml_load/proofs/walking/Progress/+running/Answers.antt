@@ -2,30 +2,30 @@ use Rattle.std.proofs.Common.{◌≡◌, ℕ, ◌+◌, ◌-◌, [], ◌∷◌, �
 use Rattle.std.proofs.lemmas.List.{append-nil}
 use Rattle.aml_code.specs.Pieces.{line_pieces, pieces, tail_pieces}
 use Rattle.aml_code.specs.Tree.{Tree, terms}
-use Rattle.aml_code.specs.View.{node_view}
 use Rattle.aml_parse.proofs.TellLaws.{grew_one, in_line, lines_told, told_line, trees_of}
 use Rattle.aml_parse.specs.Running.{run_term_at}
 use Rattle.aml_load.specs.Opening.{front_pieces}
-use Rattle.aml_load.specs.Running.{entered_at, run_names}
-use Rattle.aml_load.specs.Runner.{front_at, below, with_terms, Came, RoomBy, HasRoom}
+use Rattle.aml_load.specs.Running.{run_names}
+use Rattle.aml_load.specs.Run.{IsBehind, RunsTo}
+use Rattle.aml_load.specs.Runner.{front_at, below, with_terms, RoomBy, HasRoom}
 use Rattle.aml_load.specs.Tables.{Fails}
 use Rattle.aml_load.specs.Walking.{at_site, Holds}
 use Rattle.aml_load.proofs.Inside.{same_site, still_among, keeps_on}
 use Rattle.aml_load.proofs.Openings.{front_then_terms, front_whole}
-use Rattle.aml_load.proofs.Ran.{span_is, opened_ok, room_on, room_in, behind_is, term_is}
+use Rattle.aml_load.proofs.Ran.{span_is, opened_ok, room_on, room_in, behind_is, head_fails, term_fails, term_is}
 use Rattle.aml_load.proofs.Runs.{opened_none, told_none, done, goes_on, fails}
 use Rattle.aml_load.specs.Declaring.{Listed}
 use Rattle.aml_load.specs.declared.runner.Rest.{Rest}
+use Rattle.aml_parse.specs.declared.step.Behind.{Behind}
 use Rattle.aml_code.specs.Lawful.{next_position}
 use Rattle.std.proofs.lemmas.Result.{err_from_is_err_and}
 use Rattle.aml_load.proofs.walking.Progress.+running.Goals as goal
 
 pub tell_inside-returns-in-None-clause-told : goal.tell_inside-returns-in-None-clause-told
-tell_inside-returns-in-None-clause-told g t c =
-    let h = node_view c.args.head.now in
+tell_inside-returns-in-None-clause-told g t c = λ h is.
     let level = c.args.rest.level in
-    let none = sym c.span_inside.ensures ∙ c.in-None.is in
-    let site = at_site c.args.self.now.space c.args.inner.now in (
+    let none = is ∙ c.in-None.is in
+    let site = at_site c.args.self.now.space c.args.front.now.inner in (
       h,
       (
         [],
@@ -45,26 +45,23 @@ tell_inside-returns-in-None-clause-told g t c =
 
 pub tell_inside-overflow_add-inside : goal.tell_inside-overflow_add-inside
 tell_inside-overflow_add-inside g t c =
-    let is = sym c.span_inside.ensures ∙ c.in-Some.is in
-    let room = (subst (RoomBy c.args.code.now c.args.rest.levels) is c.requires.room).1 0 in
+    let room = (subst (RoomBy c.args.code.now c.args.rest.levels) c.in-Some.is c.requires.room).1 0 in
     omega (arith, room.inside, room.short)
 
 pub tell_inside-tell_terms-requires : goal.tell_inside-tell_terms-requires
 tell_inside-tell_terms-requires g t c κs within =
-    let is = sym c.span_inside.ensures ∙ c.in-Some.is in
-    let room = subst (RoomBy c.args.code.now c.args.rest.levels) is c.requires.room in
+    let room = subst (RoomBy c.args.code.now c.args.rest.levels) c.in-Some.is c.requires.room in
     let some = room.0 in
     (search rules, (search rules, (room.1 c.deeper.result, c.requires.inside)))
 
 pub tell_inside-returns-in_ok-tell-in-Some-2-clause-told : goal.tell_inside-returns-in_ok-tell-in-Some-2-clause-told
-tell_inside-returns-in_ok-tell-in-Some-2-clause-told g t c =
-    let h = node_view c.args.head.now in
+tell_inside-returns-in_ok-tell-in-Some-2-clause-told g t c = λ h same.
     let level = c.args.rest.level in
     let code = c.args.code.now in
-    let site = at_site c.args.self.now.space c.args.inner.now in
+    let site = at_site c.args.self.now.space c.args.front.now.inner in
     let x : ℕ × ℕ = (c.in-Some.start, c.in-Some.len) in
-    let is = sym c.span_inside.ensures ∙ c.in-Some.is in
-    let room = subst (RoomBy code c.args.rest.levels) is c.requires.room in
+    let is = same ∙ c.in-Some.is in
+    let room = subst (RoomBy code c.args.rest.levels) c.in-Some.is c.requires.room in
     let told = c.in_ok-tell_terms-in-Some.ensures.told in
     let lines = subst (λ n. g.S.Sink.grew c.tell.new.self c.tell_terms.new.sink (line_pieces n told.0)) c.deeper.ensures told.1.0 in
     let further = g.met.S.Sink.further in (
@@ -84,43 +81,74 @@ tell_inside-returns-in_ok-tell-in-Some-2-clause-told g t c =
     )
 
 pub tell_line-tell_inside-requires : goal.tell_line-tell_inside-requires
-tell_line-tell_inside-requires g t c κs within = (
-  search rules,
-  (
-    search rules,
-    (room_in c.args.code.now c.args.rest _ _ c.requires.room c.in_ok-head.ensures.there, c.in_ok-inner.ensures.within),
-  ),
-)
+tell_line-tell_inside-requires g t c κs within =
+    let told = c.in_ok-front.ensures.told in
+    let step = told.1.1.1.0 in
+    let fronts = told.1.1.1.1 in (
+      search rules,
+      (
+        search rules,
+        (
+          subst (RoomBy c.args.code.now c.args.rest.levels) (sym fronts.inside) (room_in c.args.code.now c.args.rest told.0 _ c.requires.room step.there),
+          fronts.within,
+        ),
+      ),
+    )
 
 pub tell_line-returns-clause-bounds : goal.tell_line-returns-clause-bounds
 tell_line-returns-clause-bounds g t c =
-    behind_is c.args.code.now c.args.rest _ _ c.next_position-position.result c.requires.room c.in_ok-head.ensures.there c.next_position-position.ensures
+    let told = c.in_ok-front.ensures.told in
+    let step = told.1.1.1.0 in
+    subst (λ (x : Behind). IsBehind c.args.rest x) (sym told.1.1.1.1.behind)
+    (behind_is c.args.code.now c.args.rest told.0 _ _ c.requires.room step.there step.next)
 
 pub tell_line-returns-clause-told : goal.tell_line-returns-clause-told
 tell_line-returns-clause-told g t c =
     let site = at_site c.args.self.now.space c.args.site.now in
     let code = c.args.code.now in
-    let head = node_view c.in_ok-head.head in
+    let told = c.in_ok-front.ensures.told in
+    let head = told.0 in
+    let step = told.1.1.1.0 in
+    let fronts = told.1.1.1.1 in
     let level = c.args.rest.level in
-    let below = at_site c.enter.new.self.space c.in_ok-inner.inner in
-    let inside = c.in_ok-tell_inside.ensures.told in
+    let below = at_site c.tell_head.new.self.space c.in_ok-front.front.inner in
+    let inside = c.in_ok-tell_inside.ensures.told head (sym fronts.inside) in
     let further = g.met.S.Sink.further in
-    let term = subst (g.S.Sink.grew _ _) (sym inside.1.1.0) (further _ _ _ _ _ c.in_ok-head.ensures.told inside.1.1.1.0) in (
+    let term = subst (g.S.Sink.grew _ _) (sym inside.1.1.0) (further _ _ _ _ _ told.1.0 inside.1.1.1.0) in (
       inside.0,
       (
         told_line g.S.Sink.grew further level _ _ _ _ (pieces level inside.0) c.in_ok-tell.ensures term c.in_ok-tell-2.ensures,
-        λ l h.
-            let inner = subst (λ p. Holds p l → Came c.enter.new.self c.args.site.now (Ok c.in_ok-inner.inner)
-            (entered_at (front_at (at_site p.space c.args.site.now) l) head)) c.in_ok-head.ensures.same (c.in_ok-inner.ensures.comes l) h in
-            let all = inside.1.1.1.1 inner.1.0 inner.1.1 in (
+        subst (λ (x : Behind). RunsTo c.args.self.now c.tell_inside.new.self c.args.site.now c.args.rest code x inside.0) (sym fronts.behind) (λ l h.
+            let inner = fronts.enters l h in
+            let all = inside.1.1.1.1 inner.0 inner.1 in (
               all.0,
               all.1,
               head,
-              term_is site code c.args.rest l inner.1.0 all.0 below (head, c.in_ok-head.behind) inside.0 (c.in_ok-head.ensures.step l h) inner.1.2 inner.0 all.2,
-              c.next_position-position.ensures,
-            ),
+              term_is site code c.args.rest l inner.0 all.0 below (head, told.1.1.0.behind.at) inside.0 (step.reads l h) inner.2 inner.3 all.2,
+              step.next,
+            )),
       ),
     )
+
+pub tell_line-returns-in_err-front-clause-fails : goal.tell_line-returns-in_err-front-clause-fails
+tell_line-returns-in_err-front-clause-fails g t c =
+    let e = c.in_err-front.field-0.0 in
+    let gave = err_from_is_err_and c.from_residual-in_err-front.result c.from_residual-in_err-front.ensures.1 in
+    rw (gave.1, gave.2) (λ l h.
+    head_fails (at_site c.args.self.now.space c.args.site.now) c.args.code.now c.args.rest l e (c.in_err-front.ensures.fails l h))
+
+pub tell_line-returns-in_err-tell_inside-clause-fails : goal.tell_line-returns-in_err-tell_inside-clause-fails
+tell_line-returns-in_err-tell_inside-clause-fails g t c =
+    let e = c.in_err-tell_inside.field-0.0 in
+    let gave = err_from_is_err_and c.from_residual-in_err-tell_inside.result c.from_residual-in_err-tell_inside.ensures.1 in
+    let told = c.in_ok-front.ensures.told in
+    let step = told.1.1.1.0 in
+    let fronts = told.1.1.1.1 in
+    rw (gave.1, gave.2) (λ l h.
+    let inner = fronts.enters l h in
+    term_fails (at_site c.args.self.now.space c.args.site.now) c.args.code.now c.args.rest l inner.0 (at_site c.tell_head.new.self.space c.in_ok-front.front.inner)
+    (told.0, told.1.1.0.behind.at) e (step.reads l h) inner.2 inner.3
+    (c.in_err-tell_inside.ensures.fails told.0 (sym fronts.inside) inner.0 inner.1))
 
 pub tell_terms-loop-turn-init : goal.tell_terms-loop-turn-init
 tell_terms-loop-turn-init g t c =

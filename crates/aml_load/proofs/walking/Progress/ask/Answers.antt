@@ -1,19 +1,12 @@
-use Rattle.std.specs.Prelude.{OnOk}
-use Rattle.std.proofs.Common.{Result, Ok, Err, ◌≡◌, ◌++◌, ap, refl, ◌∙◌}
+use Rattle.std.proofs.Common.{◌≡◌, ◌++◌, ap, refl, ◌∙◌}
 use Rattle.aml_namespace.specs.Known.{path_at}
 use Rattle.aml_code.specs.View.{node_view}
 use Rattle.aml_load.specs.Groups.{named_in, uses_of}
-use Rattle.aml_load.specs.Declaring.{Listed, term_uses, strict}
+use Rattle.aml_load.specs.Declaring.{term_uses, strict}
 use Rattle.aml_load.specs.Walking.{at_site}
 use Rattle.aml_load.proofs.Holding.{uses_held}
+use Rattle.aml_load.proofs.Steps.{of_both}
 use Rattle.aml_load.proofs.walking.Progress.ask.Goals as goal
-
--- two clauses of one call, of whatever is held
-of_both : {T E : Type 0} (r : Result T E) {Held New : Listed → Type 0} {A B : Type 0}
-    → ((l : Listed) → Held l → OnOk r A) → ((l : Listed) → Held l → OnOk r B) → ((l : Listed) → Held l → A → B → New l)
-    → OnOk r ((l : Listed) → Held l → New l)
-of_both (Ok x) a b new = λ l h. new l h (a l h) (b l h)
-of_both (Err e) a b new = tt
 
 pub returns-clause-asks : goal.returns-clause-asks
 returns-clause-asks c =

@@ -311,7 +311,7 @@ tell_plain-returns-clause-told g t c =
       op c.args.row.now.opcode None parts.0 empty,
       (
         plain_is (g.N.Names.scope c.args.self.now.names.now) _ row _ _ _ parts.0 (g.N.Names.paths c.args.self.now.names.now c.tell_parts.new.locals) _ c.in_ok-label.rest.now parts.1.0
-            (c.in_ok-declare_told.ensures.declared parts.0 empty parts.1.1.0.0 refl),
+            (c.in_ok-declare.ensures.declared parts.0 empty parts.1.1.0.0 refl),
         (
           refl,
           told_op _ g.met.S.Sink.further c.args.here.level _ _ _ _ _ _ (Some row) _ None parts.0 empty c.requires.listed parts.1.1.0.1
@@ -332,7 +332,7 @@ tell_packed-returns-clause-told g t c =
             c.args.found.now.tail c.args.end (g.N.Names.paths c.args.self.now.names.now c.args.locals.now) c.args.bytes.now c.in_ok-width.width c.in_ok-width.inside.now c.in_ok-width.behind.now
             c.in_ok-guard_of.field-0 parts.0 (g.N.Names.paths c.args.self.now.names.now c.tell_parts.new.locals) c.in_ok-label.rest.now tail.0 (g.N.Names.paths c.args.self.now.names.now c.tell_tail.new.locals) _
             c.in_ok-width.ensures.exact (search rules) (rw ends at parts.1.0) (rw ends at tail.1.0)
-            (c.in_ok-declare_told.ensures.declared parts.0 tail.0 parts.1.1.0.0 (ap (map plain_name) c.as_slice.ensures.value ∙ tail.1.1.0)),
+            (c.in_ok-declare.ensures.declared parts.0 tail.0 parts.1.1.0.0 (ap (map plain_name) c.as_slice.ensures.value ∙ tail.1.1.0)),
         (
           refl,
           told_op _ g.met.S.Sink.further c.args.here.level _ _ _ _ _ _ (Some row) _ (Some c.in_ok-width.width) parts.0 tail.0 c.requires.listed parts.1.1.0.1

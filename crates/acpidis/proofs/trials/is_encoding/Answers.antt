@@ -1,5 +1,0 @@
-use Rattle.std.proofs.Common.{rules}
-use Rattle.acpidis.proofs.trials.is_encoding.Goals as goal
-
-pub returns : goal.returns
-returns c = search rules

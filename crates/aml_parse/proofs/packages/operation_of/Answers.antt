@@ -1,6 +1,0 @@
-use Rattle.std.proofs.Common.{rules}
-use Rattle.aml_parse.proofs.Views.{views}
-use Rattle.aml_parse.proofs.packages.operation_of.Goals as goal
-
-pub returns : goal.returns
-returns c = search (rules, views)
