@@ -137,7 +137,7 @@ def try_deep(tries):
     for folder in ("nested", "long", "below"):
         for command in ("refused.py", "refused.py --any-run", "calls.py --any-run", "missing.py --any-run"):
             script, *words = command.split()
-            run, seconds = timed(tries.run, script, *words, folder)
+            run, seconds = timed(tries.run, script, *words, folder, most=2)
             is_said = run.returncode in (0, 1, 2) and "Traceback" not in run.stderr and len(run.stderr.splitlines()) < 50
             tries.is_so(f"{script}, {folder}: {run.returncode}, {run.stderr[-300:]}", is_said)
             tries.is_so(f"{script}, {folder}: {seconds} seconds", seconds < 2)

@@ -74,7 +74,7 @@ def run(script: str, *words: object, printed: int = subprocess.DEVNULL, **variab
     """The status, standard error and the seconds of processor time of a script."""
     bound = lambda: resource.setrlimit(resource.RLIMIT_AS, (MOST_MEMORY, MOST_MEMORY))
     how = {"stdout": printed, "env": {**os.environ, **variables}, "preexec_fn": bound}
-    done, seconds = timed(run_script, script, *words, **how)
+    done, seconds = timed(run_script, script, *words, most=SECONDS, **how)
     return done.returncode, done.stderr, seconds
 
 

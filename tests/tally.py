@@ -5,6 +5,7 @@ from __future__ import annotations
 
 import importlib.machinery
 import importlib.util
+import math
 import os
 import pathlib
 import resource
@@ -102,12 +103,18 @@ def run_script(name: str, *words: object, **more: object) -> subprocess.Complete
     return subprocess.run([sys.executable, TOP / "examples" / name, *map(str, words)], **how)
 
 
-def timed(run: Callable, *words: object, **more: object) -> tuple:
-    """What running something gives, and the seconds of processor time that its processes took."""
-    before = resource.getrusage(resource.RUSAGE_CHILDREN)
-    done = run(*words, **more)
-    after = resource.getrusage(resource.RUSAGE_CHILDREN)
-    return done, after.ru_utime + after.ru_stime - before.ru_utime - before.ru_stime
+def timed(run: Callable, *words: object, most: float = math.inf, **more: object) -> tuple:
+    """What running something gives, and the seconds of processor time that its processes took. Where these reach the most
+    that is allowed, it runs again, three times in all, and the least counts: what else a machine does may slow a run."""
+    least = math.inf
+    for _ in range(3):
+        before = resource.getrusage(resource.RUSAGE_CHILDREN)
+        done = run(*words, **more)
+        after = resource.getrusage(resource.RUSAGE_CHILDREN)
+        least = min(least, after.ru_utime + after.ru_stime - before.ru_utime - before.ru_stime)
+        if least < most:
+            break
+    return done, least
 
 
 def on_full_disk(name: str, *words: object, **more: object) -> tuple[int, str]:
