@@ -105,6 +105,10 @@ class Type:
             forms[name] = (f"{name} {{ {fields} }}" if brace else name + rest, words)
         return forms
 
+    def is_plain(self):
+        """Whether it has bare forms alone, of which nothing is said: definitions that go through them list them all."""
+        return "enum" in self.code[0] and all(form == name and not said for name, (form, said) in self.forms().items())
+
     def words(self):
         """The names of types in it, those of its own forms left out."""
         forms = r"^    [A-Z]\w*" if f"enum {self.name}" in self.code[0] else "$^"
@@ -181,7 +185,8 @@ class Sources:
             path, name = file.aliases[prefix], word
         else:
             path, name = file.imports.get(prefix or word, (f"Rattle.{file.crate}.specs.{file.name}", prefix or word))
-            owner = f"`{path.split('.')[1]}`" + ("'s sources" if ".declared." in path else "")
+            _, *places = path.split(".")
+            owner = f"`{places[0]}`'s sources" if ".declared." in path else f"`{places[-1]}` of `{places[0]}`"
             owner = "the kit" if path.startswith(("Rattle.std.", "lib.")) else owner
             definition.renamed += [f"`{prefix or word}` is `{name}` of {owner}"] if name != (prefix or word) else []
         _, crate, *module = path.split(".")
@@ -239,7 +244,7 @@ class Page:
     """The page while it is made: its lines, the definitions and types on it, and what each part has of them."""
 
     def __init__(self, sources):
-        self.sources, self.lines, self.known, self.shown, self.parts = sources, [], [], [], []
+        self.sources, self.lines, self.known, self.shown, self.parts, self.told = sources, [], [], [], [], set()
         roots = [sources.named(names)[0] for _, names in [*PARTS, ADDED, PRINTED]]
         for number, (title, _) in enumerate([*PARTS, ADDED, PRINTED]):
             others = {it for other in roots[:number] + roots[number + 1 :] for it in other}
@@ -265,10 +270,11 @@ class Page:
             self.lines += [f"Here {', '.join(renamed)}.", ""] if renamed else []
             for section in some:
                 self.section(section[1], sections[section])
-        self.parts.append((title, self.known[-len(definitions) :], [it for it in self.shown[shown:] if not it.seen and not it.stepped]))
+        self.parts.append((title, self.known[-len(definitions) :], [it for it in self.shown[shown:] if not (it.seen or it.stepped or it.is_plain())]))
 
     def section(self, comment, definitions):
-        block, around = [*comment, ""], []
+        block, around = [] if comment in self.told else [*comment, ""], []
+        self.told.add(comment)
         self.known += definitions
         for definition in definitions:
             if definition.steps:
@@ -307,7 +313,7 @@ class Page:
         parts_of = lambda it: [] if it.seen or it.name in FAULT_TYPES else list(self.sources.types_in(it))
         found = [it for it in topmost_first(types, parts_of) if it not in self.shown and it.name not in FAULT_TYPES]
         self.shown += found
-        return found
+        return [it for it in found if not it.is_plain()]
 
     def kit(self):
         """The words of the kit's library as they are written: of an operator its sign."""

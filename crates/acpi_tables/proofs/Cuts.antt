@@ -9,13 +9,17 @@ use Rattle.std.proofs.Math.ListN.{drop_of_length-le}
 use Rattle.std.proofs.lemmas.List.{drop-drop, drop_at, take_at, take-append-drop}
 use Rattle.std.proofs.lemmas.List.Folds.{concat-append}
 use Rattle.std.specs.List.{AllByRecursion}
-use Rattle.acpi_tables.specs.Madt.{IsRecord, HoldsRecord, HoldsMadt, BreaksAt, is_whole, record_bytes_at, record_end}
+use Rattle.acpi_tables.specs.Madt.{HoldsRecord, HoldsMadt, BreaksAt, is_whole, record_bytes_at, record_end}
 use Rattle.acpi_tables.specs.Madt.{records_from, records_of}
 use Rattle.acpi_tables.specs.Madt.{meaning_of, said, RefusesMadt}
 use Rattle.acpi_tables.specs.declared.madt.MadtRecord.{MadtRecord}
 use Rattle.acpi_tables.specs.declared.faults.Bad.{Bad}
 use Rattle.acpi_tables.specs.declared.faults.Bad.TheVariants.{Short, MadtRecord as BadRecord}
 use Rattle.acpi_tables.proofs.Numbers.{length-bytes_at}
+
+-- a record: its second byte says how many bytes it has, at least two
+abbrev pub IsRecord : List ℕ → Type 0
+IsRecord bytes = (2 ≤ length bytes) × (number_at bytes 1 1 ≡ length bytes)
 
 -- whole records up to an offset, and what the records are: these, and those from there on
 pub record WalksTo (table : List ℕ) (at : ℕ) : Type 0 where

@@ -11,7 +11,7 @@ use Rattle.acpi_tables.specs.declared.dump.Kind.TheVariants.{Root, Facs, Standar
 use Rattle.acpi_tables.specs.declared.faults.Bad.{Bad}
 use Rattle.acpi_tables.specs.declared.faults.Bad.TheVariants.{TooLarge, Short, BadSum, BadRoot, FadtShort}
 
--- A dump that is taken, of at most 16 MiB, by its signature: a pointer; a FACS (ACPI 6.5, section 5.2.10), which has no
+-- A dump that is taken, of at most 16 MiB, by its signature: an RSDP; a FACS (ACPI 6.5, section 5.2.10), which has no
 -- standard header and no checksum; or a table with the header. Of an XSDT, an RSDT and a MADT what stands behind the
 -- header is whole; a FADT has the 116 bytes up to the end of Flags. `any_sum` takes any checksum.
 pub record HoldsDump (any_sum : Bool) (bytes : List ℕ) : Type 0 where

@@ -67,17 +67,17 @@ address_in width table index =
 
 -- ---- The Root System Description Pointer (ACPI 6.5, section 5.2.5.3, table 5.3).
 
--- the revision of a pointer
+-- the revision of an RSDP
 abbrev pub revision_of : List ℕ → ℕ
 revision_of bytes = number_at bytes 15 1
 
--- a pointer: 20 bytes with the signature, and from revision 2 on 36 bytes that Length, at 20, covers
+-- an RSDP: 20 bytes with the signature, and from revision 2 on 36 bytes that Length, at 20, covers
 pub record HoldsRoot (bytes : List ℕ) : Type 0 where
   pub signature : begins_with bytes (codes "RSD PTR ") ≡ true
   pub front : 20 ≤ length bytes
   pub extended : 2 ≤ revision_of bytes → HasLength bytes 20 36
 
--- the fields of a pointer, with those that revision 2 added
+-- the fields of an RSDP, with those that revision 2 added
 abbrev pub rsdp_of : List ℕ → Rsdp
 rsdp_of bytes = record {
   oem = bytes_at bytes 9 6;
@@ -89,6 +89,5 @@ rsdp_of bytes = record {
 
 -- whether its checksums are right: that of the first 20 bytes, and from revision 2 on that of the first Length bytes
 abbrev pub root_sums : List ℕ → Bool
-root_sums bytes =
-    nat_eq (checksum (take 20 bytes)) 0
+root_sums bytes = nat_eq (checksum (take 20 bytes)) 0
     && (not (nat_le 2 (revision_of bytes)) || nat_eq (checksum (take (number_at bytes 20 4) bytes)) 0)

@@ -70,16 +70,13 @@ abbrev pub said : {C : Type 0} → (C → List ℕ) → MadtRecord C → Said
 said see (records.Known row values) = Known row.now.name.now (take (length row.now.fields.now) values)
 said see (records.Other kind content) = Unknown kind (see content)
 
--- a record: its second byte says how many bytes it has, at least two
-abbrev pub IsRecord : List ℕ → Type 0
-IsRecord bytes = (2 ≤ length bytes) × (number_at bytes 1 1 ≡ length bytes)
-
--- a table whose bytes from 44 on are records, one behind the other
+-- a table whose bytes from 44 on are records, one behind the other: the second byte of each says how many bytes it has,
+-- at least two
 pub record HoldsMadt (table : List ℕ) : Type 0 where
   pub header : 44 ≤ length table
   pub records : List (List ℕ)
   pub cut : concat records ≡ drop 44 table
-  pub each : AllByRecursion IsRecord records
+  pub each : AllByRecursion (λ r. (2 ≤ length r) × (number_at r 1 1 ≡ length r)) records
 
 -- ---- The records, one after the other: in a table that is taken the same (`records_are`, proved).
 

@@ -43,8 +43,7 @@ ending_number name = digits_value 10 (reverse (take 9 (take_while is_ascii_digit
 
 -- dumps by the number that ends the stem, then by their names as bytes, then by their indexes
 abbrev pub rank_cmp : List Dump → ℕ → ℕ → Ordering
-rank_cmp dumps =
-    then_cmp (on (λ index. ending_number (name_of dumps index)) nat_cmp)
+rank_cmp dumps = then_cmp (on (λ index. ending_number (name_of dumps index)) nat_cmp)
     (then_cmp (on (name_of dumps) (slice_cmp nat_cmp)) nat_cmp)
 
 -- The DSDT is the only one, and the SSDTs are all of them, each once, sorted.
@@ -71,9 +70,8 @@ signed_at dumps signature address =
 -- the list of the tables that an RSDP leads to (section 5.2.5.3): from revision 2 on the XSDT, where its address isn't
 -- 0, else the RSDT
 abbrev pub list_of : List Dump → List ℕ → Option ℕ
-list_of dumps root =
-    if nat_le 2 (revision_of root) && not (nat_eq (number_at root 24 8) 0)
-    then signed_at dumps (codes "XSDT") (number_at root 24 8) else signed_at dumps (codes "RSDT") (number_at root 16 4)
+list_of dumps rsdp = if nat_le 2 (revision_of rsdp) && not (nat_eq (number_at rsdp 24 8) 0)
+    then signed_at dumps (codes "XSDT") (number_at rsdp 24 8) else signed_at dumps (codes "RSDT") (number_at rsdp 16 4)
 
 -- one number more, unless it is there already
 abbrev pub with_more : List ℕ → ℕ → List ℕ
@@ -86,12 +84,11 @@ listed_by dumps list = fold with_more [] (filter_map (dump_at dumps)
 
 -- the DSDT's address in a FADT: X_DSDT where the table has its 8 bytes, 148 in all, and it isn't 0, else DSDT
 abbrev pub dsdt_address : List ℕ → ℕ
-dsdt_address table =
-    if nat_le 148 (length table) && not (nat_eq (number_at table 140 8) 0) then number_at table 140 8
+dsdt_address table = if nat_le 148 (length table) && not (nat_eq (number_at table 140 8) 0) then number_at table 140 8
     else number_at table 40 4
 
 -- The first RSDP leads to a list, the first FADT that this lists gives the address of the DSDT, and the SSDTs are those
--- that it lists.
+-- of the list, in its order.
 pub record IsChained (dumps : List Dump) (dsdt : ℕ) (ssdts : List ℕ) : Type 0 where
   pub root : ℕ
   pub list : ℕ
@@ -103,8 +100,8 @@ pub record IsChained (dumps : List Dump) (dsdt : ℕ) (ssdts : List ℕ) : Type 
   pub all : filter (has_signature dumps (codes "SSDT")) (listed_by dumps list) ≡ ssdts
 
 -- The order of the definition blocks, of dumps that are each taken by itself. At most one order holds, and none where
--- `load_order` refuses, but for want of memory (proved: its `only` and `none`). The definition blocks are the DSDT and
--- the SSDTs alone: a PSDT (5.2.11.3) is a table like any other.
+-- `load_order` refuses, but for want of memory (its clauses `only` and `none`, proved). The definition blocks are the
+-- DSDT and the SSDTs alone: a PSDT (5.2.11.3) is a table like any other.
 pub record IsOrder (dumps : List Dump) (any_sum : Bool) (dsdt : ℕ) (ssdts : List ℕ) : Type 0 where
   pub few : length dumps ≤ 512
   pub each : (index : ℕ) → index < length dumps → HoldsDump any_sum (bytes_of dumps index)

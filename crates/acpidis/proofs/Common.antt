@@ -10,7 +10,7 @@ pub use Rattle.acpidis.specs.Checks.{tried_marks, marks_in, IsUnder, Under, adde
 pub use Rattle.acpidis.specs.Checks.{uncounted, tally, tallied, checks_with, check_lines, all_same, first_check}
 pub use Rattle.aml_code.specs.Encoded.{same_bytes}
 pub use Rattle.acpidis.specs.Checks.{body_same, check_line}
-pub use Rattle.acpidis.specs.Meaning.{Meaning, LoadsBy, LoadsSet, HoldsSet, HasTables, HasTablesBy, Means, IsSet, IsSetBy, codes_of, Shows}
+pub use Rattle.acpidis.specs.Meaning.{Meaning, LoadsBy, LoadsSet, HasTables, HasTablesBy, Means, IsSet, IsSetBy, codes_of, Shows}
 pub use Rattle.acpidis.specs.Meaning.{order_of}
 pub use Rattle.acpidis.specs.declared.checking.Checked.{Checked}
 pub use Rattle.acpidis.specs.declared.checking.Mark.{Mark}

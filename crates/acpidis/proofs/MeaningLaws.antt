@@ -1,11 +1,11 @@
 -- A set of dumps means one listing: what an order and a load of it give is what the dumps load to, with the bodies that
 -- were read it is what they mean, and whatever they mean is that. What a refused load tells is told of the one order.
-use Rattle.acpidis.proofs.Common.{AllZip, ◌≡◌, ◌≤◌, ℕ, List, [], ◌∷◌, map, length, drop, get_or, refl, sym, ap, ap₂}
+use Rattle.acpidis.proofs.Common.{AllZip, ◌≡◌, ◌≤◌, ℕ, List, [], ◌∷◌, map, length, drop, refl, sym, ap, ap₂}
 use Rattle.acpidis.proofs.Common.{◌∙◌, Trees, Entry}
-use Rattle.acpidis.proofs.Common.{LoadsBy, methods_in, methods_of, HoldsBy, Loaded, TableSet, table_dumps, IsListed, Dump}
+use Rattle.acpidis.proofs.Common.{LoadsBy, methods_in, methods_of, HoldsBy, HoldsLoad, Loaded, TableSet, table_dumps, IsListed, Dump}
 use Rattle.acpidis.proofs.Common.{Order, IsOrder, Body, indexes_in, Options, codes_in}
 use Rattle.acpidis.proofs.Common.{Reading, entry_of, AreReadings}
-use Rattle.acpidis.proofs.Common.{Became, AreBodies, Meaning, LoadsSet, HoldsSet, HasTables, HasTablesBy, Means, IsSetBy, codes_of}
+use Rattle.acpidis.proofs.Common.{Became, AreBodies, Meaning, LoadsSet, HasTables, HasTablesBy, Means, IsSetBy, codes_of}
 use Rattle.std.proofs.Common.{◌⊎◌, inl, inr}
 use Rattle.acpidis.specs.Told.{LoadsKept}
 use Rattle.aml_code.specs.Pieces.{Told}
@@ -141,24 +141,13 @@ pub told_so : (dumps : List Dump) (options : Options) (x : TableSet) (ds : List 
 told_so dumps options x ds are k it =
     rw (← it.holds.tables, ← it.holds.methods) (are_told options.unknown_zero x k.entries it.holds.space x.methods.items ds are)
 
--- ---- the same set with its tables in lists of their own, beside the order that it was loaded in
+-- ---- the same set with its tables in lists of their own
 
-first_is : (d e : ℕ) (s t : List ℕ) → d ∷ s ≡ e ∷ t → d ≡ e
-first_is d e s t is = ap (λ l. get_or l 0 d) is
-
-rest_is : (d e : ℕ) (s t : List ℕ) → d ∷ s ≡ e ∷ t → s ≡ t
-rest_is d e s t is = ap (λ l. drop 1 l) is
-
-pub listed_so : (order : Order) (loaded : Loaded) (x : TableSet) (dumps : List Dump) (k : Meaning) → IsListed loaded x
-    → table_dumps x.tables.items ≡ indexes_in order → HasTables x dumps k → HoldsSet order loaded dumps k
-listed_so order loaded x dumps k is named it =
-    let same = sym named ∙ it.named in record {
-      dsdt = first_is _ _ _ _ same;
-      ssdts = rest_is _ _ _ _ same;
-      holds = record {
-        tables = is.tables ∙ it.holds.tables;
-        trees = is.trees ∙ it.holds.trees;
-        space = rw is.space it.holds.space;
-        methods = ap₂ methods_in is.space is.methods ∙ it.holds.methods;
-      };
-    }
+pub listed_so : (loaded : Loaded) (x : TableSet) (dumps : List Dump) (k : Meaning) → IsListed loaded x → HasTables x dumps k
+    → HoldsLoad loaded (codes_of dumps k) k.trees k.entries
+listed_so loaded x dumps k is it = record {
+  tables = is.tables ∙ it.holds.tables;
+  trees = is.trees ∙ it.holds.trees;
+  space = rw is.space it.holds.space;
+  methods = ap₂ methods_in is.space is.methods ∙ it.holds.methods;
+}

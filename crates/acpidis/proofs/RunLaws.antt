@@ -1,7 +1,7 @@
 -- A run prints the text of the one listing that the dumps mean: what is kept of the bodies prints as the bodies of
 -- whatever they mean do (`texts_output`), and with `--check` says the same of them (`trials_output`); so the writer has
 -- the whole text, or its first bytes. Two listings in memory of the same dumps print the same (`one_output`).
-use Rattle.acpidis.proofs.Common.{◌≡◌, ℕ, Bool, true, false, cond, List, ◌∷◌, ◌++◌, map, get_or, Result, sym, ap, ap₂}
+use Rattle.acpidis.proofs.Common.{◌≡◌, ℕ, Bool, true, false, cond, List, ◌∷◌, ◌++◌, map, get_or, Result, sym, ap}
 use Rattle.acpidis.proofs.Common.{◌∙◌, methods_of, codes_view}
 use Rattle.acpidis.proofs.Common.{table_codes, table_dumps, body_in_set, methods_in, methods_of_set, TableSet, Method, CodeFault}
 use Rattle.acpidis.proofs.Common.{Trees, Dump, BodyText, OneBody, OneBlock, levels_of}
@@ -67,14 +67,13 @@ module _ (dumps : List Dump) (options : Options) (x y : Listing) (sound : (k : M
 
   shown_is : (check : Bool) (l : Listing) → Shows l dumps sound.0 → shown check l ≡ output_of check dumps sound.0
   shown_is check l s =
-      let holds = s.set.holds in
       let trees = map (λ v. nodes_view v.items) l.loaded.trees.items in
       let order = indexes_in l.order in
       let codes = codes_view l.loaded.tables.items in
       let ms = methods_in l.loaded.space l.loaded.methods.items in
       (λ i. printed check (s.same_dumps i) l.loaded.space (blocks_of (names_in (s.same_dumps i) order) codes trees) codes ms (s.bodies i))
-      ∙ printed_is dumps sound.0 order codes trees l.loaded.space ms (ap₂ ◌∷◌ s.set.dsdt s.set.ssdts) holds.tables holds.trees holds.space
-      holds.methods check
+      ∙ printed_is dumps sound.0 order codes trees l.loaded.space ms s.order s.set.tables s.set.trees s.set.space
+      s.set.methods check
 
   pub one_output : (check : Bool) → shown check x ≡ shown check y
   one_output check = shown_is check x sound.2 ∙ sym (shown_is check y (one sound.0 sound.1))

@@ -80,7 +80,7 @@ all_same cs = list_all (λ c. c.same) cs
 
 -- ---- The lines of `check`.
 
--- of a listing that dumps mean always ` Same`
+-- ` Same`, always so of what dumps mean; ` Differs`
 abbrev pub same_word : Bool → List ℕ
 same_word true = word " Same\n"
 same_word false = word " Differs\n"

@@ -9,21 +9,19 @@ use Rattle.aml_namespace.specs.Known.{Declared, declarations_in}
 use Rattle.aml_load.specs.Loading.{methods_of, LoadsTo}
 use Rattle.aml_load.specs.Views.{HoldsBy, HoldsLoad}
 use Rattle.aml_set.specs.Views.{table_dumps, table_terms}
-use Rattle.aml_set.specs.declared.loaded.Loaded.{Loaded}
 use Rattle.aml_set.specs.declared.tables.TableSet.{TableSet}
 use Rattle.asl_text.specs.Texts.{OneBody}
 use Rattle.asl_text.specs.Bodies.{body_view}
 use Rattle.aml_text.specs.Listing.{listing_text}
 use Rattle.aml_text.specs.declared.listing.Listing.{Listing}
 use Rattle.acpi_tables.specs.declared.dump.Dump.{Dump}
-use Rattle.acpi_tables.specs.declared.order.Order.{Order}
 use Rattle.acpi_tables.specs.Header.{table_of}
 use Rattle.acpi_tables.specs.Order.{IsOrder, bytes_of}
 use Rattle.acpidis.specs.declared.options.Options.{Options}
 use Rattle.acpidis.specs.Bodies.{ReadsOrRaw, Became}
 
--- a listing: the indexes of the definition blocks in load order, their terms, what these declare, and a body for each
--- method
+-- a listing: the indexes of the definition blocks in load order, their terms, the entries (what the user gives, then
+-- what the terms declare), and a body for each method
 pub record Meaning : Type 0 where
   pub dsdt : ℕ
   pub ssdts : List ℕ
@@ -36,8 +34,8 @@ abbrev pub codes_of : List Dump → Meaning → List (List ℕ)
 codes_of dumps k = map (λ index. drop 36 (table_of (bytes_of dumps index))) (k.dsdt ∷ k.ssdts)
 
 -- The dumps have this order, and the AML of its tables loads to these trees and entries. Nothing is said of the bodies
--- of methods. Outside them a name that leads nowhere, and has no given count, takes none inside a declaration;
--- elsewhere only with both options.
+-- of methods. Outside them an unknown name takes no arguments inside a declaration; elsewhere only where `any_run` and
+-- `unknown_zero` are both set.
 pub record LoadsSet (dumps : List Dump) (options : Options) (k : Meaning) : Type 0 where
   pub order : IsOrder dumps options.any_sum k.dsdt k.ssdts
   pub loads : LoadsTo options.any_run (options.any_run && options.unknown_zero) options.externals.items
@@ -47,8 +45,7 @@ pub record LoadsSet (dumps : List Dump) (options : Options) (k : Meaning) : Type
 -- namespace of all entries, or raw, where it reads as no terms.
 pub record Means (dumps : List Dump) (options : Options) (k : Meaning) : Type 0 where
   pub set : LoadsSet dumps options k
-  pub bodies : AllZip (ReadsOrRaw options.unknown_zero k.entries (codes_of dumps k)) (methods_of k.entries)
-      k.bodies
+  pub bodies : AllZip (ReadsOrRaw options.unknown_zero k.entries (codes_of dumps k)) (methods_of k.entries) k.bodies
 
 -- the rows of the namespace: the declared paths in order, each once, with what its declarations say
 abbrev pub rows_of : List Entry → List (List Seg × Declared)
@@ -93,17 +90,12 @@ IsSet dumps options set = IsSetBy dumps options set (table_terms set.tables.item
 
 -- ---- a listing in memory
 
--- an order and a loaded set are those of this listing
-pub record HoldsSet (order : Order) (loaded : Loaded) (dumps : List Dump) (k : Meaning) : Type 0 where
-  pub dsdt : order.dsdt ≡ k.dsdt
-  pub ssdts : order.ssdts.items ≡ k.ssdts
-  pub holds : HoldsLoad loaded (codes_of dumps k) k.trees k.entries
-
 -- A listing in memory is this one, of these dumps. Who read a body (`drawn`), and a raw body's fault, are free here:
--- `AreDrawn` and `Told` say these.
+-- other clauses say these (`AreDrawn`, `Told`).
 pub record Shows (x : Listing) (dumps : List Dump) (k : Meaning) : Type 0 where
   pub same_dumps : x.dumps.now ≡ dumps
-  pub set : HoldsSet x.order x.loaded dumps k
+  pub order : x.order.dsdt ∷ x.order.ssdts.items ≡ k.dsdt ∷ k.ssdts
+  pub set : HoldsLoad x.loaded (codes_of dumps k) k.trees k.entries
   pub bodies : map body_view x.bodies.items ≡ k.bodies
 
 -- Each of its bodies became what it is: its terms are those that the body reads as, and no others, and the fault of a

@@ -8,7 +8,8 @@ pub struct Options {
     pub any_sum: bool,
     /// Whether the code of tables outside methods may run, so that they are read as whatever a run of it would declare.
     pub any_run: bool,
-    /// Whether a name that leads nowhere, and has no given count, is taken to have no arguments.
+    /// Whether a name that leads nowhere, and has no given count, is taken to have no arguments in a body, and with
+    /// `any_run` elsewhere too. Inside a declaration outside bodies it has none in any case.
     pub unknown_zero: bool,
     /// Argument counts, 0 to 7, by path. They count for a name that leads nowhere, and, with `any_run`, for one whose
     /// counts differ: of the paths that it may mean the first with such a count, and the greatest there.

@@ -14,8 +14,8 @@ use Rattle.aml_names.proofs.StepLaws.{IsBytes-take, Takes, Takes-then, byte_take
 use Rattle.aml_names.proofs.StepLaws.{byte_fault}
 use Rattle.aml_code.specs.declared.packages.PkgWidth.{PkgWidth}
 use Rattle.aml_code.specs.declared.packages.PkgWidth.TheVariants as width
-use Rattle.aml_code.specs.Packages.{following_bytes, width_of, width_len, little, spelled, package_bytes, FitsFollowing}
-use Rattle.aml_code.specs.Packages.{FitsWidth, little_at, value_at}
+use Rattle.aml_code.specs.Packages.{following_bytes, width_of, width_len, little, package_bytes, FitsWidth, little_at}
+use Rattle.aml_code.specs.Packages.{value_at}
 use Rattle.aml_code.specs.Packages.{length_at, span_at, front_at}
 use Rattle.aml_code.specs.Faults.{HasPkgBits, IsLengthFault}
 use Rattle.aml_code.specs.Tree.{op, Parts, empty, opcode_bytes, encoding, parts_encoding}
@@ -110,6 +110,33 @@ front_length code o w ps =
 
 -- ---- package lengths
 
+-- a length and its room by the number of bytes behind the lead byte
+abbrev spelled : ℕ → ℕ → List ℕ
+spelled zero v = v % 64 ∷ []
+spelled (suc k) v = (64 * suc k + v % 16) ∷ little (suc k) (v / 16)
+
+abbrev FitsFollowing : ℕ → ℕ → Type 0
+FitsFollowing zero v = v < 64
+FitsFollowing (suc k) v = (k < 3) × (v < 16 * 256 ^ suc k)
+
+spelled_is : (w : PkgWidth) (v : ℕ) → spelled (following_bytes w) v ≡ package_bytes w v
+spelled_is width.One v = refl
+spelled_is width.Two v = refl
+spelled_is width.Three v = refl
+spelled_is width.Four v = refl
+
+fits_width : (w : PkgWidth) (v : ℕ) → FitsFollowing (following_bytes w) v → FitsWidth w v
+fits_width width.One v fits = fits
+fits_width width.Two v fits = fits.1
+fits_width width.Three v fits = fits.1
+fits_width width.Four v fits = fits.1
+
+width_fits : (w : PkgWidth) (v : ℕ) → FitsWidth w v → FitsFollowing (following_bytes w) v
+width_fits width.One v fits = fits
+width_fits width.Two v fits = (omega arith, fits)
+width_fits width.Three v fits = (omega arith, fits)
+width_fits width.Four v fits = (omega arith, fits)
+
 abbrev pub IsLength : List ℕ → PkgWidth → ℕ → List ℕ → Type 0
 IsLength bytes w v rest = Takes bytes (package_bytes w v) rest × FitsWidth w v
 
@@ -143,7 +170,10 @@ value_takes at lead end bytes x small fits e =
     let t = little_takes (lead / 64) end bytes high.0 high.1 fits h1 in
     let m = more_bytes (lead / 64) lead bytes high.0 high.1 refl (eqb-false _ _ h) small (omega arith) t.0 t.1 in
     let same : following_bytes (width_of (lead / 64)) ≡ lead / 64 = following_of (lead / 64) (omega arith) in
-    subst (λ (k : ℕ). Takes (lead ∷ bytes) (spelled k (lead % 16 + 16 * high.0)) high.1 × FitsFollowing k (lead % 16 + 16 * high.0)) (sym same) m)))
+    let value = lead % 16 + 16 * high.0 in
+    let wide = width_of (lead / 64) in
+    let so = subst (λ (k : ℕ). Takes (lead ∷ bytes) (spelled k value) high.1 × FitsFollowing k value) (sym same) m in
+    (subst (λ (b : List ℕ). Takes (lead ∷ bytes) b high.1) (spelled_is wide value) so.0, fits_width wide value so.1))))
 
 pub length_takes : (end : ℕ) (bytes : List ℕ) (x : (PkgWidth × ℕ) × List ℕ) → IsBytes bytes → length_at end bytes ≡ Ok x
     → IsLength bytes x.0.0 x.0.1 x.1
@@ -185,10 +215,10 @@ pub length_again : (end : ℕ) (w : PkgWidth) (v : ℕ) (rest : List ℕ) → Fi
     → length_at end (package_bytes w v ++ rest) ≡ Ok ((w, v), rest)
 unfolding length_at
 length_again end w v rest fits =
-    let h = headed (end - length (package_bytes w v ++ rest)) (following_bytes w) v end rest fits in
+    let h = headed (end - length (package_bytes w v ++ rest)) (following_bytes w) v end rest (width_fits w v fits) in
     let goal : List ℕ → Result ((PkgWidth × ℕ) × List ℕ) CodeFault =
     λ b. byte_at end b >>= λ lead. value_at (end - length (package_bytes w v ++ rest)) lead.0 end lead.1 in
-    ap goal h.text ∙ h.reads ∙ ap (λ (u : PkgWidth). Ok ((u, v), rest)) (width_again w)
+    ap (λ (b : List ℕ). goal (b ++ rest)) (sym (spelled_is w v)) ∙ ap goal h.text ∙ h.reads ∙ ap (λ (u : PkgWidth). Ok ((u, v), rest)) (width_again w)
 
 -- ---- faults
 

@@ -45,10 +45,10 @@ last_byte found (part_more _ ps) = last_byte found ps
 abbrev pub plain_name : Seg → Name
 plain_name s = record { root = false; ups = 0; form = One; segs = s ∷ [] }
 
--- the named units of a field list, in order
+-- the named units of a field list, in order, each as a name of one segment without prefix
 abbrev pub unit_names : Fields → List Name
 unit_names no_fields = []
-unit_names (field_more (unit s w n) us) = plain_name s ∷ unit_names us
+unit_names (field_more (unit s w n) us) = record { root = false; ups = 0; form = One; segs = s ∷ [] } ∷ unit_names us
 unit_names (field_more _ us) = unit_names us
 
 abbrev pub field_names : Tail → List Name
@@ -87,9 +87,8 @@ declared_by scope (Some row) ls ps t = with_declared scope ls (names_declared ro
 -- as arguments, elements and connections, declares nothing.
 abbrev mutual
   pub after : Option (List Seg) → PathSet → Tree → PathSet
-  after scope ls nothing = ls
-  after scope ls (named n ts) = ls
   after scope ls (op o w ps t) = declared_by scope (row_of o) (after_tail scope ls t) ps t
+  after scope ls _ = ls
 
   pub after_all : Option (List Seg) → PathSet → Trees → PathSet
   after_all scope ls no_trees = ls
@@ -116,7 +115,8 @@ pub record Setting : Type 0 where
   pub scope : Option (List Seg)
 
 -- How many arguments follow a name in a position: its own number where it is a TermArg or a term of a body or of a
--- table whose code may run, none where it is a target or stands in data. As another term of a table no name stands.
+-- table whose code may run, none where it is a target or stands in data. As a term of another table, or of a guard, no
+-- name stands.
 abbrev pub count_in : Arities → Position → PathSet → Name → Option ℕ
 count_in arity positions.ModuleTerm ls n = None
 count_in arity positions.GuardTerm ls n = None
@@ -150,7 +150,7 @@ tail_in positions.RunTerm tails.Terms = tails.Body
 tail_in positions.RunAfterIf tails.Terms = tails.Body
 tail_in _ k = k
 
--- a term with this opcode
+-- whether a term has this opcode
 abbrev pub has_opcode : ℕ → Tree → Bool
 has_opcode o (op p w ps t) = p == o
 has_opcode o _ = false
@@ -163,7 +163,7 @@ next_position positions.RunTerm t = cond (has_opcode 0xA0 t) positions.RunAfterI
 next_position positions.RunAfterIf t = cond (has_opcode 0xA0 t) positions.RunAfterIf positions.RunTerm
 next_position p t = p
 
--- ---- What stands inside a term, by which terms may stand in which positions there.
+-- ---- What stands inside a term, by which terms may stand in which positions there (`Is`).
 
 -- a part of a kind; an External has a count of at most seven arguments (20.2.5.2)
 abbrev pub IsPart : (Position → Tree → Type 0) → PartKind → Part → Type 0
@@ -186,9 +186,9 @@ AreParts Is [] no_parts = Unit {0}
 AreParts Is (k ∷ ks) (part_more x xs) = IsPart Is k x × AreParts Is ks xs
 AreParts Is _ _ = ⊥
 
--- an element of a field list
+-- an element of a field list; a connection has a name, or a Buffer (11)
 abbrev pub IsField : (Position → Tree → Type 0) → Field → Type 0
-IsField Is (unit g w n) = IsNameSeg g.0 × FitsWidth w n
+IsField Is (unit s w n) = IsNameSeg s.0 × FitsWidth w n
 IsField Is (reserved w n) = FitsWidth w n
 IsField Is (access a b) = (a < 256) × (b < 256)
 IsField Is (connection (target n)) = IsName n × (has_segment n ≡ true)

@@ -1,6 +1,8 @@
 -- The opcodes of AML, a line each, in the order of the standard's sections (ACPI 6.5, 20.2.3 to 20.2.6): the opcode,
--- the mnemonic, the group, the place, the parts, the tail and the role. A two-byte opcode `5B xx` is 0x5Bxx. LNotEqual,
--- LLessEqual and LGreaterEqual (92 93, 92 94, 92 95) are LNot around LEqual, LGreater and LLess.
+-- the mnemonic, the group, the place, the parts, the tail and the role. `plain` has no tail and the role Other;
+-- `declares` has no tail, and declares an object; `opens` has terms, which stand under the path of the object that it
+-- declares. A two-byte opcode `5B xx` is 0x5Bxx. LNotEqual, LLessEqual and LGreaterEqual (92 93, 92 94, 92 95) are LNot
+-- around LEqual, LGreater and LLess.
 use Prim.Native.String.{String}
 use Rattle.std.specs.Prelude.{ℕ, List, [], ◌∷◌, codes, ◌==◌, Bool, true, false, Option, Some}
 use Rattle.std.specs.Prelude.{None, is_some, find}
@@ -21,6 +23,7 @@ use Rattle.aml_code.specs.declared.rows.OpRow.{OpRow}
 use Rattle.aml_code.specs.declared.rows.Position.{Position}
 use Rattle.aml_code.specs.declared.rows.Position.TheVariants as positions
 
+-- what the table says of an opcode
 pub record Row : Type 0 where
   pub opcode : ℕ
   pub mnemonic : List ℕ
@@ -31,7 +34,7 @@ pub record Row : Type 0 where
   pub role : Role
 
 -- a row; one without a package that does nothing to the namespace; one without a package that declares an object; one
--- that opens a scope and declares the object there
+-- that declares an object and has terms inside it, under the object's path
 abbrev row : ℕ → String → Group → Place → List PartKind → Option TailKind → Role → Row
 row o m g p ps t r = record { opcode = o; mnemonic = codes m; group = g; place = p; parts = ps; tail = t; role = r }
 

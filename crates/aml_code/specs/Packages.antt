@@ -1,4 +1,4 @@
--- Package lengths as they are spelled (ACPI 6.5, 20.2.4).
+-- Package lengths as they are spelled (ACPI 6.5, 20.2.4); more bytes than needed are allowed, and are kept.
 use Rattle.std.specs.Prelude.{ℕ, zero, suc, ◌+◌, ◌*◌, ◌/◌, ◌%◌, ◌^◌, ◌<◌, List, [], ◌∷◌, ◌-◌, length, take, drop}
 use Rattle.std.specs.Prelude.{Result, Ok, Err, nat_lt, ◌==◌, if◌then◌else◌}
 use Rattle.aml_code.specs.declared.packages.PkgWidth.{PkgWidth}
@@ -29,22 +29,16 @@ abbrev pub little : ℕ → ℕ → List ℕ
 little zero n = []
 little (suc k) n = n % 256 ∷ little k (n / 256)
 
--- with no byte after the lead byte, its six low bits are the value; else its four low bits are the lowest of the value
-abbrev pub spelled : ℕ → ℕ → List ℕ
-spelled zero v = v % 64 ∷ []
-spelled (suc k) v = (64 * suc k + v % 16) ∷ little (suc k) (v / 16)
-
--- the bytes that spell a value in a width
+-- The bytes that spell a value in a width. With no byte after the lead byte, its six low bits are the value; else its
+-- four low bits are the lowest of the value.
 abbrev pub package_bytes : PkgWidth → ℕ → List ℕ
-package_bytes w v = spelled (following_bytes w) v
-
-abbrev pub FitsFollowing : ℕ → ℕ → Type 0
-FitsFollowing zero v = v < 64
-FitsFollowing (suc k) v = (k < 3) × (v < 16 * 256 ^ suc k)
+package_bytes width.One v = v % 64 ∷ []
+package_bytes w v = (64 * following_bytes w + v % 16) ∷ little (following_bytes w) (v / 16)
 
 -- the value has room in the width: below 2^6, 2^12, 2^20 or 2^28
 abbrev pub FitsWidth : PkgWidth → ℕ → Type 0
-FitsWidth w v = FitsFollowing (following_bytes w) v
+FitsWidth width.One v = v < 64
+FitsWidth w v = v < 16 * 256 ^ following_bytes w
 
 -- ---- Reading package lengths and numbers forward, with the first fault that is met.
 

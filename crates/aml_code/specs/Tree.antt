@@ -6,6 +6,8 @@
 --   Tail                   Tail: what follows the parts, to the end of the package
 --   Field, Vec<Field>      Field, Fields: an element of a field list
 --   Link                   Link: what a connection leads to
+--
+-- What a form is, and what its parts are, the texts of a Node's forms say, which stand beside these at `node_view`.
 use Rattle.std.specs.Prelude.{ℕ, suc, List, Option, ◌+◌, ◌/◌, ◌%◌, ltb, cond, [], ◌∷◌, ◌++◌, length, take, drop, Some}
 use Rattle.std.specs.Prelude.{None}
 use Rattle.aml_names.specs.declared.segments.Seg.{Seg}
@@ -60,7 +62,8 @@ mutual
     target : Name → Link
     buffer : Tree → Link
 
--- how many there are
+-- ---- How many terms a list has.
+
 abbrev pub tree_count : Trees → ℕ
 tree_count no_trees = 0
 tree_count (tree_more t ts) = suc (tree_count ts)
@@ -71,7 +74,7 @@ tree_count (tree_more t ts) = suc (tree_count ts)
 abbrev pub opcode_bytes : ℕ → List ℕ
 opcode_bytes o = cond (ltb o 256) (o ∷ []) ((o / 256) ∷ (o % 256) ∷ [])
 
--- what a package length covers: its own bytes and the content
+-- a package: its length, which counts its own bytes too, and the content; or the content alone
 abbrev pub packed : Option PkgWidth → List ℕ → List ℕ
 packed None content = content
 packed (Some w) content = package_bytes w (width_len w + length content) ++ content

@@ -24,7 +24,7 @@ abbrev pub fields_from : List Field → Fields
 fields_from [] = no_fields
 fields_from (u ∷ us) = field_more u (fields_from us)
 
--- What each form stands for (`field_step` to `tail_step`), with what is inside already seen so. The letters are its
+-- What each form stands for (`field_step` to `tail_step`); what is inside it is data already. The letters are its
 -- fields, in their order.
 abbrev pub field_step : Field-F Field Link Tree Part Tail → Field
 field_step (Field-F.NamedUnit s w n) = unit s w n
@@ -59,10 +59,11 @@ tail_step (Tail-F.Elements ts) = elements (trees_of ts.items)
 tail_step (Tail-F.Fields us) = fields (fields_from us.items)
 tail_step (Tail-F.Body a n) = body a n
 
--- the tree of a Node, of a part, a tail, an element of a field list and a connection
+-- the tree of a Node
 abbrev pub node_view : Node → Tree
 node_view = fold-Node Field Link Tree Part Tail field_step link_step node_step part_step tail_step
 
+-- the same of a part, a tail, an element of a field list and a connection
 abbrev pub part_view : CodePart → Part
 part_view = fold-Part Field Link Tree Part Tail field_step link_step node_step part_step tail_step
 

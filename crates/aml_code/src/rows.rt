@@ -104,7 +104,8 @@ pub enum Role {
     External,
     /// It declares the named units of its field list.
     Fields,
-    /// An If. The terms inside it stand in the same scope; where the code outside methods may run, they may not run.
+    /// An If: nothing. The terms inside it stand in the same scope; a run of the code outside methods may pass over
+    /// them.
     Guard,
     /// Nothing.
     Other,
@@ -141,7 +142,8 @@ pub enum Position {
     ModuleTerm,
     /// In the list of terms of a guard: an If in a table whose predicate is 00.
     GuardTerm,
-    /// In a list of terms of a table whose code may run. A step has of the terms inside it only their span.
+    /// In a list of terms of a table whose code may run. Such terms are read in steps (`ReadsStep`); a step has of the
+    /// terms inside a term only their span.
     RunTerm,
     /// The same, right after an If.
     RunAfterIf,

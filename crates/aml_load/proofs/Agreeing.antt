@@ -36,7 +36,7 @@ use Rattle.aml_namespace.specs.Namespace.{Entry}
 use Rattle.aml_namespace.specs.Runs.{outlook_of, agreed_arity}
 use Rattle.aml_load.specs.Declaring.{Use, use_of, use_count, kinds_in, is_argument, uses_in, all_uses, parts_uses}
 use Rattle.aml_load.specs.Declaring.{part_uses, tail_uses, fields_uses, field_uses, term_uses}
-use Rattle.aml_load.specs.Loading.{Where, in_declaration, emptied, Agrees}
+use Rattle.aml_load.specs.Loading.{Where, in_declaration, Agrees}
 
 -- ---- the two parts of what holds of each
 
@@ -276,11 +276,16 @@ module _ (code : List ℕ) (z : Bool) (es : List Entry) (site : Where) (d : Bool
 
 -- ---- a term of a table that is read whole, without the terms inside it
 
+-- a tail without terms inside it
+abbrev pub emptied : Tail → Tail
+emptied (terms ts) = terms no_trees
+emptied r = r
+
 fits_less : (w : PkgWidth) (m n : ℕ) → n ≤ m → FitsWidth w m → FitsWidth w n
 fits_less width.One m n less h = omega (arith, less, h)
-fits_less width.Two m n less h = (h.0, omega (arith, less, h.1))
-fits_less width.Three m n less h = (h.0, omega (arith, less, h.1))
-fits_less width.Four m n less h = (h.0, omega (arith, less, h.1))
+fits_less width.Two m n less h = omega (arith, less, h)
+fits_less width.Three m n less h = omega (arith, less, h)
+fits_less width.Four m n less h = omega (arith, less, h)
 
 width_less : (k : Option TailKind) (w : Option PkgWidth) (m n : ℕ) → n ≤ m → HasWidth k w m → HasWidth k w n
 width_less None None m n less h = tt

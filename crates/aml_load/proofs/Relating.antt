@@ -29,13 +29,13 @@ use Rattle.aml_namespace.specs.Namespace.{Entry, Givens}
 use Rattle.aml_load.specs.declared.faults.LoadFault.{LoadFault}
 use Rattle.aml_load.specs.Declaring.{◌>>=◌, strict, Listed, Use, first_listed, with_uses, term_uses}
 use Rattle.aml_load.specs.Declaring.{most_methods, declare_as, declare, declare_inside, declare_all}
-use Rattle.aml_load.specs.Loading.{role_of, Where, methods_of, in_declaration, AddsUnits, Does, DoesTerm, emptied}
-use Rattle.aml_load.specs.Loading.{Agrees, TermsDeclare, TermDeclares, InsideDeclares, TermsRead, TermReads, TableLoads}
+use Rattle.aml_load.specs.Loading.{role_of, Where, methods_of, in_declaration, AddsUnits, Does, DoesTerm}
+use Rattle.aml_load.specs.Loading.{Agrees, TermsDeclare, TermDeclares, TermsRead, TermReads, TableLoads}
 use Rattle.aml_load.specs.Loading.{TablesLoad, LoadsTo}
 use Rattle.aml_load.specs.Running.{Front, entered_at, run_names}
 use Rattle.aml_load.specs.Tables.{ReadsOne, ReadTables, ListsTo}
 use Rattle.aml_load.proofs.Agreeing.{AgreesOne, Agree, All-left, All-right, told, module_agrees, module_told, run_agrees}
-use Rattle.aml_load.proofs.Agreeing.{run_told}
+use Rattle.aml_load.proofs.Agreeing.{emptied, run_told}
 use Rattle.aml_load.proofs.Doing.{DoesBy, Shaped, shaped, does_is, does_so}
 use Rattle.aml_load.proofs.Doing.{bound, with_entries, goes_in, GoesSo, strict_is, strict_so, run_site, front}
 use Rattle.aml_load.proofs.Doing.{enter_is, enter_so, is_flat}
@@ -81,6 +81,29 @@ head_fewer site es nothing fs below h = same_fewer es fs h
 head_fewer site es (named n ts) fs below h = same_fewer es fs h
 head_fewer site es (op o w ps r) fs below h = does_fewer (role_of o) site es ps r fs below h
 
+-- ---- what a term declares, and what the terms inside it do
+
+-- the terms inside a term
+abbrev InsideDeclares : Bool → List Entry → List ℕ → Where → List Entry → Tail → List Entry → Type 0
+InsideDeclares z last code site es (terms ts) fs = TermsDeclare z last code site es ts fs
+InsideDeclares z last code site es r fs = es ≡ fs
+
+module _ (z : Bool) (last : List Entry) (code : List ℕ) (site : Where) (es : List Entry) (o : ℕ) (w : Option PkgWidth)
+    (ps : Parts) where
+  -- an opcode by its tail, whatever that is
+  abbrev OpDeclares : Tail → List Entry → Type 0
+  OpDeclares r fs = (ms : List Entry) × (below : Where) × Agrees z last code positions.ModuleTerm site (op o w ps (emptied r))
+      × Does (role_of o) site es ps r ms below × InsideDeclares z last code below ms r fs
+
+  op_parts : (r : Tail) (fs : List Entry) → TermDeclares z last code site es (op o w ps r) fs → OpDeclares r fs
+  op_parts (terms ts) fs h = h
+  op_parts _ fs (below, agrees, does) = (fs, below, agrees, does, refl)
+
+  op_whole : (r : Tail) (fs : List Entry) → OpDeclares r fs → TermDeclares z last code site es (op o w ps r) fs
+  op_whole (terms ts) fs h = h
+  op_whole r fs (ms, below, agrees, does, same) =
+      (below, agrees, subst (λ (gs : List Entry). Does (role_of o) site es ps r gs below) same does)
+
 module _ (z : Bool) (last : List Entry) (code : List ℕ) where
   mutual
     terms_fewer : (site : Where) (es : List Entry) (ts : Trees) (fs : List Entry)
@@ -93,8 +116,9 @@ module _ (z : Bool) (last : List Entry) (code : List ℕ) where
         → TermDeclares z last code site es x fs → Fewer es fs
     term_fewer site es nothing fs h = same_fewer es fs h
     term_fewer site es (named n ts) fs h = same_fewer es fs h
-    term_fewer site es (op o w ps r) fs (gs, below, agrees, does, inner) =
-        omega (arith, does_fewer (role_of o) site es ps r gs below does, inside_fewer below gs r fs inner)
+    term_fewer site es (op o w ps r) fs h =
+        let d = op_parts z last code site es o w ps r fs h in
+        omega (arith, does_fewer (role_of o) site es ps r d.0 d.1 d.3, inside_fewer d.1 d.0 r fs d.4)
 
     inside_fewer : (site : Where) (es : List Entry) (r : Tail) (fs : List Entry)
         → InsideDeclares z last code site es r fs → Fewer es fs
@@ -240,7 +264,7 @@ module _ (z : Bool) (last : List Entry) (code : List ℕ) where
           let inner = goes_is levels q kind k m r did.1 (role_of o) here tail
           (λ s into. inside_is levels q kind s k m r (omega (arith, less)) fit.1 tail into all) did.3 all in
           let uses = both l.uses (term_uses (strict t scope) (op o w ps r)) k.uses did.2.1 inner.1 in (
-            (
+            op_whole z last code (strict t scope) l.entries o w ps r m.entries (
               k.entries,
               did.1,
               module_agrees code z last (strict t scope) o w ps r no_arguments (suc levels) p less h law uses.1,
@@ -315,14 +339,15 @@ module _ (z : Bool) (last : List Entry) (code : List ℕ) where
           → Listing (declare (strict t scope) l x) fs
       tree_so scope l nothing fs few same all = (l.uses, ap (λ es. Ok (with_entries l es)) same, all)
       tree_so scope l (named n ts) fs few same all = (l.uses, ap (λ es. Ok (with_entries l es)) same, all)
-      tree_so scope l (op o w ps r) fs few (gs, below, agrees, does, inner) all =
+      tree_so scope l (op o w ps r) fs few h all =
           let site = strict t scope in
+          let d = op_parts z last code site l.entries o w ps r fs h in
           let asked = with_uses site l (op o w ps r) in
-          let uses = one l.uses (term_uses site (op o w ps r)) asked.uses refl all (module_told code z last site o w ps r agrees) in
-          let did = strict_so t scope asked ps r (λ l below. declare_inside below l r) (role_of o) gs below
-          (omega (arith, few, inside_fewer z last code below gs r fs inner)) (does_so site l.entries gs below (role_of o) ps r does) in
-          goes_so scope o w ps r asked gs below fs agrees inner uses did
-          (λ s there. inside_so s (with_entries asked gs) r fs few there uses)
+          let uses = one l.uses (term_uses site (op o w ps r)) asked.uses refl all (module_told code z last site o w ps r d.2) in
+          let did = strict_so t scope asked ps r (λ l below. declare_inside below l r) (role_of o) d.0 d.1
+          (omega (arith, few, inside_fewer z last code d.1 d.0 r fs d.4)) (does_so site l.entries d.0 d.1 (role_of o) ps r d.3) in
+          goes_so scope o w ps r asked d.0 d.1 fs d.2 d.4 uses did
+          (λ s there. inside_so s (with_entries asked d.0) r fs few there uses)
 
       inside_so : (scope : List Seg) (l : Listed) (r : Tail) (fs : List Entry) → length (methods_of fs) ≤ most_methods
           → InsideDeclares z last code (strict t scope) l.entries r fs → Agree z last l.uses

@@ -8,7 +8,7 @@ use Rattle.aml_names.specs.declared.names.Name.{Name}
 use Rattle.aml_names.specs.Names.{placed}
 use Rattle.aml_code.specs.declared.rows.Position.{Position}
 use Rattle.aml_code.specs.declared.rows.Role.{Role}
-use Rattle.aml_code.specs.Faults.{Arities, most_levels}
+use Rattle.aml_code.specs.Faults.{Arities}
 use Rattle.aml_code.specs.Lawful.{last_label, field_names, setting_of, IsLawful, ReadsModule, ReadsStep, next_position}
 use Rattle.aml_code.specs.Tree.{Tree, op, Trees, no_trees, tree_more, Parts, no_parts, part_more, label, byte, Tail}
 use Rattle.aml_code.specs.Tree.{terms, body}
@@ -45,6 +45,7 @@ pub record Where : Type 0 where
 unfoldable pub role_of : ℕ → Role
 role_of opcode = unwrap_or (option_map (λ r. r.role) (row_of opcode)) roles.Other
 
+-- the kind of what such a role declares
 abbrev pub kind_of : Object → Kind
 kind_of objects.Name = kinds.Name
 kind_of objects.Mutex = kinds.Mutex
@@ -64,7 +65,7 @@ declares_by _ = false
 
 -- whether a term is a declaration
 abbrev pub in_declaration : Tree → Bool
-in_declaration (op o w ps r) = unwrap_or (option_map (λ r. declares_by r.group) (row_of o)) false
+in_declaration (op o w ps r) = unwrap_or (option_map (λ row. declares_by row.group) (row_of o)) false
 in_declaration _ = false
 
 -- ---- The entries of a term.
@@ -97,8 +98,8 @@ abbrev pub leads : Where → List Entry → Name → Option (List Seg)
 leads site es =
     cond site.any_run (agreed_path (outlook_of es) site.scope) (found (namespace_of es) set.empty site.scope)
 
--- the entry of an Alias of a source, which is declared in every run only where its source has a kind in every run, and
--- the path above it too
+-- the entry of an Alias of a source. It is sure only where the source and the path above the Alias have a kind in every
+-- run.
 abbrev pub alias_entry : Where → List Entry → List Seg → List Seg → Entry
 alias_entry site es source p = declares p
     (kinds.Alias (open_in (outlook_of es) source) (target_by (kind_at (namespace_of es) source) source)) None
@@ -133,8 +134,8 @@ abbrev pub in_scope : Where → List Entry → List Seg → Where
 in_scope site es p = record site { scope = p; sure = site.sure && (not site.any_run || scope_in (outlook_of es) p) }
 
 -- What a term does by its role at a site, from the entries in front of it to those behind it; and where the terms
--- inside it stand. What is inside an If, an Else or a While is not sure, where the code outside methods may run. The
--- object type of an External (its first byte) is not looked at.
+-- inside it stand (`below`, which is free where none can stand there). What is inside an If, an Else or a While is not
+-- sure, where the code outside methods may run. The object type of an External (its first byte) is not looked at.
 abbrev pub Does : Role → Where → List Entry → Parts → Tail → List Entry → Where → Type 0
 Does (roles.Declares o) site es ps r fs below = (n : Name) × (last_label None ps ≡ Some n)
     × Adds site es n (plain_entry site es (kind_of o)) fs × (placed site.scope n ≡ Some below.scope)
@@ -145,26 +146,21 @@ Does roles.Scope site es (part_more (label n) no_parts) r fs below =
     (opened site es n ≡ Some below.scope) × (es ≡ fs) × (below ≡ in_scope site es below.scope)
 Does roles.Alias site es (part_more (label source) (part_more (label n) no_parts)) r fs below =
     (p : List Seg) × (leads site es source ≡ Some p) × Adds site es n (alias_entry site es p) fs
-Does roles.External site es (part_more (label n) (part_more (byte k) (part_more (byte count) no_parts))) r fs below =
+Does roles.External site es (part_more (label n) (part_more (byte _) (part_more (byte count) no_parts))) r fs below =
     (p : List Seg) × (placed site.scope n ≡ Some p) × (fs ≡ es ++ external p count ∷ [])
 Does roles.Fields site es ps r fs below = AddsUnits site es (field_names r) fs
 Does roles.Guard site es ps r fs below = (es ≡ fs) × (below ≡ record site { sure = not site.any_run && site.sure })
 Does roles.Other site es ps r fs below = (es ≡ fs) × (below ≡ record site { sure = not site.any_run && site.sure })
 Does _ site es ps r fs below = ⊥
 
--- a term, which does nothing without an opcode
+-- what a term does: without an opcode nothing
 abbrev pub DoesTerm : Where → List Entry → Tree → List Entry → Where → Type 0
 DoesTerm site es (op o w ps r) fs below = Does (role_of o) site es ps r fs below
 DoesTerm site es t fs below = es ≡ fs
 
--- a tail without terms inside it
-abbrev pub emptied : Tail → Tail
-emptied (terms ts) = terms no_trees
-emptied r = r
-
 -- ---- The methods among entries.
 
--- the methods, in order
+-- the method that an entry declares, if it does; and the methods of entries, in order
 abbrev pub method_of : Entry → Option Method
 method_of (declares p k (Some b) sure) =
     Some (record { path = p; table = b.table; start = b.start; len = b.len; flags = b.flags })
@@ -183,10 +179,10 @@ module _ (unknown_zero : Bool) (last : List Entry) (code : List ℕ) where
   abbrev pub Agrees : Position → Where → Tree → Type 0
   Agrees p site t = IsLawful
       (setting_of (agreed_arity (outlook_of last) (unknown_zero || in_declaration t) site.scope) None code)
-      most_levels p set.empty t
+      512 p set.empty t
 
-  -- From the entries in front of them to those behind them: terms at a site, a term, and the terms inside one. Each
-  -- agrees, without the terms inside it.
+  -- From the entries in front of them to those behind them: terms at a site, and a term. Each agrees, without the terms
+  -- inside it; one inside a guard as a term of the table, as which it may stand too.
   abbrev mutual
     pub TermsDeclare : Where → List Entry → Trees → List Entry → Type 0
     TermsDeclare site es no_trees fs = es ≡ fs
@@ -194,14 +190,12 @@ module _ (unknown_zero : Bool) (last : List Entry) (code : List ℕ) where
         (ms : List Entry) × TermDeclares site es t ms × TermsDeclare site ms ts fs
 
     pub TermDeclares : Where → List Entry → Tree → List Entry → Type 0
-    TermDeclares site es (op o w ps r) fs = (ms : List Entry) × (below : Where)
-        × Agrees positions.ModuleTerm site (op o w ps (emptied r)) × Does (role_of o) site es ps r ms below
-        × InsideDeclares below ms r fs
+    TermDeclares site es (op o w ps (terms ts)) fs = (ms : List Entry) × (below : Where)
+        × Agrees positions.ModuleTerm site (op o w ps (terms no_trees))
+        × Does (role_of o) site es ps (terms ts) ms below × TermsDeclare below ms ts fs
+    TermDeclares site es (op o w ps r) fs =
+        (below : Where) × Agrees positions.ModuleTerm site (op o w ps r) × Does (role_of o) site es ps r fs below
     TermDeclares site es t fs = es ≡ fs
-
-    pub InsideDeclares : Where → List Entry → Tail → List Entry → Type 0
-    InsideDeclares site es (terms ts) fs = TermsDeclare site es ts fs
-    InsideDeclares site es r fs = es ≡ fs
 
   -- How many arguments names take in a term of a table whose code may run: as many as every run agrees on by the
   -- entries in front of it, with what the user gives, and none where a name is unknown, or its counts differ.
@@ -210,7 +204,8 @@ module _ (unknown_zero : Bool) (last : List Entry) (code : List ℕ) where
 
   abbrev mutual
     -- A table whose code may run is read from the left: the terms from an offset on to the end of a span, with at most
-    -- so many levels, at a site, from entries to entries. For each a step stands there, with the counts in front of it.
+    -- so many levels, at a site, from entries to entries. Each is read as a step (`head`), with the counts that names
+    -- have in front of it; `behind` is the offset behind it, `inner` the entries behind what it declares itself.
     pub TermsRead : ℕ → Position → ℕ → ℕ → Where → List Entry → Trees → List Entry → Type 0
     TermsRead levels p at end site es no_trees fs = (at ≡ end) × (es ≡ fs)
     TermsRead levels p at end site es (tree_more t ts) fs =
@@ -231,7 +226,7 @@ module _ (unknown_zero : Bool) (last : List Entry) (code : List ℕ) where
 abbrev pub TableLoads : Bool → Bool → List Entry → ℕ → List Entry → List ℕ → Trees → List Entry → Type 0
 TableLoads false z last t es code ts fs = ReadsModule code ts
     × TermsDeclare z last code (record { table = t; scope = []; any_run = false; sure = true }) es ts fs
-TableLoads true z last t es code ts fs = TermsRead z last code most_levels positions.RunTerm 0 (length code)
+TableLoads true z last t es code ts fs = TermsRead z last code 512 positions.RunTerm 0 (length code)
     (record { table = t; scope = []; any_run = true; sure = true }) es ts fs
 
 -- the tables from number t on, each from the root, one after the other

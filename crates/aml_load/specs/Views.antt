@@ -1,14 +1,15 @@
 -- What a loaded set is the load of.
-use Rattle.std.specs.Prelude.{◌≡◌, ℕ, List, [], slice_index_or, Some, ◌≢◌, Bool, ◌⊎◌}
+use Rattle.std.specs.Prelude.{◌≡◌, ℕ, List, [], map, slice_index_or, Some, ◌≢◌, Bool, ◌⊎◌}
 use Rattle.std.specs.Prelude.{Result, Ok, Err, Vec}
 use Rattle.std.specs.declared.alloc.Global.{Global}
 use Rattle.aml_code.specs.Pieces.{Told}
 use Rattle.aml_code.specs.Tree.{Trees, slice_of}
+use Rattle.aml_code.specs.View.{nodes_view}
 use Rattle.aml_namespace.specs.Known.{Known, StandsFor}
 use Rattle.aml_set.specs.declared.loaded.Loaded.{Loaded}
-use Rattle.aml_set.specs.Methods.{Method, methods_in, span_of}
+use Rattle.aml_set.specs.Methods.{Method, method_in, span_of}
 use Rattle.aml_set.specs.declared.tables.TableSet.{TableSet}
-use Rattle.aml_set.specs.Views.{codes_view, trees_view, methods_of_set, table_codes, table_terms}
+use Rattle.aml_set.specs.Views.{methods_of_set, table_codes, table_terms}
 use Rattle.aml_load.specs.Kept.{AreKeptOf}
 use Rattle.aml_load.specs.Loading.{methods_of}
 use Rattle.aml_names.specs.declared.faults.CodeFault.{CodeFault}
@@ -21,12 +22,12 @@ use Rattle.aml_parse.specs.Reading.{all_at}
 use Rattle.aml_namespace.specs.Namespace.{Entry}
 use Rattle.aml_namespace.specs.Runs.{outlook_of, agreed_arity}
 
--- The namespace and the methods of a loaded set are those of these entries.
+-- A loaded set has this AML and these terms, and its namespace and its methods are those of these entries.
 pub record HoldsLoad (x : Loaded) (codes : List (List ℕ)) (ts : List Trees) (es : List Entry) : Type 0 where
-  pub tables : codes_view x.tables.items ≡ codes
-  pub trees : trees_view x.trees.items ≡ ts
+  pub tables : map (λ c. c.now) x.tables.items ≡ codes
+  pub trees : map (λ t. nodes_view t.items) x.trees.items ≡ ts
   pub space : StandsFor x.space es
-  pub methods : methods_in x.space x.methods.items ≡ methods_of es
+  pub methods : map (method_in x.space) x.methods.items ≡ methods_of es
 
 -- Those of a set of tables in one list are, and these are the tables' terms, whoever has them.
 pub record HoldsBy (x : TableSet) (own : List Trees) (codes : List (List ℕ)) (ts : List Trees)

@@ -53,6 +53,5 @@ is_name_lead b = is_lead_char b || ((b == 0x5C) || ((b == 0x5E) || ((b == 0x2E) 
 
 -- where a name leads from a scope, without a search
 abbrev pub placed : List Seg → Name → Option (List Seg)
-placed scope name =
-    cond name.root (Some name.segs)
+placed scope name = cond name.root (Some name.segs)
     (cond (nat_le name.ups (length scope)) (Some (take (length scope - name.ups) scope ++ name.segs)) None)

@@ -29,8 +29,7 @@ upward (suc n) scope segment = (take (suc n) scope ++ segment) ∷ upward n scop
 -- the paths that a name may mean in a scope, the nearest first: any name but a single segment has one, or none above
 -- the root
 abbrev pub candidates : List Seg → Name → List (List Seg)
-candidates scope name =
-    cond (is_single name) (upward (length scope) scope name.segs) (option_to_list (placed scope name))
+candidates scope n = cond (is_single n) (upward (length scope) scope n.segs) (option_to_list (placed scope n))
 
 -- ---- A stepping stone of the proofs: the last segments of some paths.
 

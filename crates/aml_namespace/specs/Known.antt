@@ -153,7 +153,8 @@ outlook_in k = record {
 }
 
 -- What is known stands for a list of entries: the declarations of each path say the same in both, and both have the
--- same greatest count of Externals for each path, and the same given one. Which paths have numbers is said elsewhere.
+-- same greatest count of Externals for each path, and the same given one. Which paths have numbers (`paths`) is free
+-- here.
 pub record StandsFor (k : Known) (es : List Entry) : Type 0 where
   pub same_declared : (q : List Seg) → map.get k.declarations q ≡ declaration_at es q
   pub same_outs : (q : List Seg) → map.get k.outs q ≡ outs_at es q

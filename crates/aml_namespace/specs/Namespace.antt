@@ -113,14 +113,12 @@ first_given n (p ∷ paths) = option_or (n.givens p) (first_given n paths)
 -- else 0 if unknown names count so, else none is known. Where it leads to one of the locals: 0. Else by the path's kind
 -- and its Externals.
 abbrev pub arity_at : Namespace → Bool → PathSet → List (List Seg) → Option (List Seg) → Option ℕ
-arity_at n unknown_zero locals paths None = option_or (first_given n paths) (cond unknown_zero (Some 0) None)
-arity_at n unknown_zero locals paths (Some p) =
-    cond (set.contains locals p) (Some 0) (count_of_kind n (kind_at n p) (n.outs p))
+arity_at n z locals paths None = option_or (first_given n paths) (cond z (Some 0) None)
+arity_at n z locals paths (Some p) = cond (set.contains locals p) (Some 0) (count_of_kind n (kind_at n p) (n.outs p))
 
--- how many arguments a name takes in a scope (`method`, a method's path or another), by the path that it means
+-- how many arguments a name takes in a scope, by the path that it means
 abbrev pub arity_of : Namespace → Bool → List Seg → PathSet → Name → Option ℕ
-arity_of n unknown_zero method locals name =
-    arity_at n unknown_zero locals (candidates method name) (found n locals method name)
+arity_of n z scope locals name = arity_at n z locals (candidates scope name) (found n locals scope name)
 
 -- ---- Parts of these, as the code asks them.
 

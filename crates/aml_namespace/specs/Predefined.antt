@@ -10,16 +10,11 @@ use Rattle.aml_namespace.specs.declared.kinds.Kind.TheVariants.{Scope, Name, Met
 abbrev pub is_one_of : List String → Seg → Bool
 is_one_of names s = list_any (λ (name : String). bytes_eq (codes name) s.0) names
 
--- the kind of a predefined segment below the root
-abbrev pub predefined_segment : Seg → Option Kind
-predefined_segment s =
-    cond (is_one_of ("_GPE" ∷ "_PR_" ∷ "_SB_" ∷ "_SI_" ∷ "_TZ_" ∷ []) s) (Some Scope)
-    (cond (is_one_of ("_GL_" ∷ []) s) (Some Mutex)
-    (cond (is_one_of ("_OS_" ∷ "_REV" ∷ []) s) (Some Name)
-    (cond (is_one_of ("_OSI" ∷ []) s) (Some (Method 1)) None)))
-
 -- the kind of a predefined path: of the root, or of a segment below it
 abbrev pub predefined : List Seg → Option Kind
 predefined [] = Some Scope
-predefined (s ∷ []) = predefined_segment s
+predefined (s ∷ []) = cond (is_one_of ("_GPE" ∷ "_PR_" ∷ "_SB_" ∷ "_SI_" ∷ "_TZ_" ∷ []) s) (Some Scope)
+    (cond (is_one_of ("_GL_" ∷ []) s) (Some Mutex)
+    (cond (is_one_of ("_OS_" ∷ "_REV" ∷ []) s) (Some Name)
+    (cond (is_one_of ("_OSI" ∷ []) s) (Some (Method 1)) None)))
 predefined (s ∷ t ∷ rest) = None

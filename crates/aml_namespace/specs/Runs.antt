@@ -113,7 +113,7 @@ counts_met o locals [] = []
 counts_met o locals (p ∷ paths) = cond (set.contains locals p) (0 ∷ [])
     (cond (o.sure p) (counts_of o p) (counts_of o p ++ counts_met o locals paths))
 
--- the count of which there are only copies
+-- the one count of a list in which all are the same
 abbrev pub common : List ℕ → Option ℕ
 common [] = None
 common (n ∷ ns) = cond (list_all (λ m. m == n) ns) (Some n) None
@@ -151,7 +151,7 @@ abbrev pub agreed_or : Option (Option (List Seg)) → Option (List Seg) → Opti
 agreed_or None outside = outside
 agreed_or (Some path) outside = path
 
--- the path that every run agrees on, as far as one has a kind, else the first that an External names
+-- where one of the candidates may have a kind, the path that every run agrees on; else the first that an External names
 abbrev pub agreed_path : Outlook → List Seg → Name → Option (List Seg)
 agreed_path o scope name =
     agreed_or (first_agreed o (candidates scope name)) (find (is_outside o.first) (candidates scope name))

@@ -3,7 +3,7 @@ ghost use Rattle.std.specs.Prelude.{◌≡◌, [], ◌∷◌, List};
 ghost use Rattle.std.specs.Option.{option_map};
 ghost use Rattle.aml_names.specs.declared.segments.Seg.{Seg as AnySeg};
 ghost use Rattle.aml_namespace.specs.Kinds.{kind_in};
-ghost use Rattle.aml_namespace.specs.Predefined.{predefined, predefined_segment, is_one_of};
+ghost use Rattle.aml_namespace.specs.Predefined.{predefined, is_one_of};
 
 use crate::ids::PathId;
 use crate::kinds::Kind;
@@ -36,7 +36,7 @@ pub fn predefined_kind(path: &[Seg]) -> Option<Kind<PathId>>
 
 /// That of a segment below the root.
 fn kind_of_segment(segment: Seg) -> Option<Kind<PathId>>
-    ensures { (paths : List (List AnySeg)) → option_map (kind_in paths) result ≡ predefined_segment segment }
+    ensures { (paths : List (List AnySeg)) → option_map (kind_in paths) result ≡ predefined (segment ∷ []) }
 {
     if is_scope(segment) {
         Some(Kind::Scope)

@@ -30,7 +30,7 @@ abbrev pub has_terms : Option TailKind → Bool
 has_terms (Some TailKind.Terms) = true
 has_terms _ = false
 
--- a term with terms inside it
+-- whether a term has terms inside it, by its row
 abbrev pub is_block : Tree → Bool
 is_block (op o w ps t) = unwrap_or (option_map (λ (r : Row). has_terms r.tail) (row_of o)) false
 is_block _ = false

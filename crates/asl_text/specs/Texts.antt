@@ -145,7 +145,7 @@ field_lines level (field_more u us) = line level (field_text u) ++ field_lines l
 
 -- ---- methods
 
--- what became of a method's body: its terms, or that it reads as none; its bytes are those of its span (`span_of`)
+-- what became of a method's body: its terms, or that it reads as none; its bytes are the span that `Method` says
 pub data OneBody : Type 0 where
   read : Trees → OneBody
   raw : OneBody

@@ -6,14 +6,23 @@ use Rattle.acpidis.proofs.disassembling.disassemble.Goals as goal
 
 pub returns-clause-sound : goal.returns-clause-sound
 returns-clause-sound g c =
-    let it = means_so c.args.dumps.now c.args.options c.in-Ok.set.1 _ _ c.in_ok-found.ensures.bodies c.in-Ok.ensures.set.sound in
-    (it.0, it.1, record { same_dumps = refl; set = listed_so _ _ _ _ _ c.in_ok-loaded.ensures c.in-Ok.ensures.order it.2; bodies = sym (entries_are _) ∙ it.3 })
+    let it = means_so c.args.dumps.now c.args.options c.in-Ok.set.1 _ _ c.in_ok-found.ensures.bodies c.in-Ok.ensures.set.sound in (
+      it.0,
+      it.1,
+      record {
+        same_dumps = refl;
+        order = sym c.in-Ok.ensures.order ∙ it.2.named;
+        set = listed_so _ _ _ _ c.in_ok-loaded.ensures it.2;
+        bodies = sym (entries_are _) ∙ it.3;
+      },
+    )
 
 pub returns-clause-one : goal.returns-clause-one
 returns-clause-one g c = λ k means.
     let it = c.in-Ok.ensures.set.one k means.set in record {
       same_dumps = refl;
-      set = listed_so _ _ _ _ _ c.in_ok-loaded.ensures c.in-Ok.ensures.order it;
+      order = sym c.in-Ok.ensures.order ∙ it.named;
+      set = listed_so _ _ _ _ c.in_ok-loaded.ensures it;
       bodies = sym (entries_are _) ∙ means_only c.args.dumps.now c.args.options c.in-Ok.set.1 _ _ c.in_ok-found.ensures.bodies k means it;
     }
 
