@@ -4,7 +4,7 @@ the left, each with the counts of what stands before it, and declare what then s
 from collections import namedtuple
 from dataclasses import dataclass
 
-from loading import MOST_METHODS, PREDEFINED, Loaded, Method, Namespace, Unloadable, own_count, path_text, placed
+from loading import MOST_METHODS, PREDEFINED, Loaded, Method, Namespace, own_count, path_text, placed
 from reading import ALIAS, EXTERNAL, FIELD_LISTS, KINDS, METHOD, ROWS, SCOPE, SCOPES, Reader, Refused
 
 # The kinds of paths that a Scope opens in every run that has them
@@ -43,11 +43,9 @@ class RunNamespace(Namespace):
 
     def rows(self):
         """The declared paths with the kinds of their first declarations, and their marks."""
-        marks = {
-            path: ["Maybe"] * (not any(is_sure for _, is_sure in found)) + [f"Times {len(found)}"] * (len(found) > 1)
-            for path, found in self.declarations.items()
-        }
-        return sorted((path, found[0][0], marks[path]) for path, found in self.declarations.items())
+        is_maybe = lambda found: not any(is_sure for _, is_sure in found)
+        marks = lambda found: ["Maybe"] * is_maybe(found) + [f"Times {len(found)}"] * (len(found) > 1)
+        return sorted((path, found[0][0], marks(found)) for path, found in self.declarations.items())
 
     def counts(self, path):
         """How many arguments each of the kinds takes that may stand at a path; None where nobody knows."""
@@ -75,20 +73,13 @@ class RunNamespace(Namespace):
     def arity(self, scope, unknown_zero=False):
         def count(declared, name):
             met = self.counts_met(scope, name, declared)
-            if not met:
-                return self.untold_count(scope, name, unknown_zero)
-            told = agreed(met)
-            return self.given_count(scope, name) if told is None else told
+            # What no declaration tells anything of has the count of the first External.
+            externals = (self.externals[path] for path in name.candidates(scope) if path in self.externals)
+            told = agreed(met) if met else next(externals, None)
+            given = self.given_count(scope, name) if told is None else told
+            return 0 if given is None and not met and unknown_zero else given
 
         return count
-
-    def untold_count(self, scope, name, unknown_zero):
-        """The count of a name that no declaration tells anything of."""
-        external = next((path for path in name.candidates(scope) if path in self.externals), None)
-        if external is not None:
-            return self.externals[external]
-        given = self.given_count(scope, name)
-        return 0 if given is None and unknown_zero else given
 
     def find(self, scope, name, declared=()):
         """Where a name leads in every run, or None."""
@@ -224,5 +215,6 @@ def load(codes, given=(), unknown_zero=False):
             if loaded.space.arity(use.scope, unknown_zero or use.in_declaration)((), use.name) != use.count:
                 raise Refused("ModuleCall", path=None if path is None else path_text(path))
     except Refused as fault:
-        raise Unloadable(fault, None if fault.name == "TooManyMethods" else table) from fault
+        fault.table = None if fault.name == "TooManyMethods" else table
+        raise
     return loaded

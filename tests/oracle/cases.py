@@ -82,10 +82,6 @@ def each_text(words, code):
         yield from lines
 
 
-def cuts_text(_, code):
-    return [line for length in range(len(code)) for line in [f"{length} bytes:", *text_of(Reader(code[:length]))]]
-
-
 class StepReader(Reader):
     """Reads a term of a table whose code may run, without the terms inside it: of these it keeps the span."""
 
@@ -139,8 +135,9 @@ def map_text(words, text):
 
 
 OF_BYTES = {
-    "terms": each_text, "step": step_text, "cuts": cuts_text, "name": name_text, "length": length_text,
+    "terms": each_text, "step": step_text, "name": name_text, "length": length_text,
     "madt": madt_text, "xsdt": entries_text(b"XSDT"), "rsdt": entries_text(b"RSDT"), "map": map_text,
+    "cuts": lambda _, code: [line for at in range(len(code)) for line in [f"{at} bytes:", *text_of(Reader(code[:at]))]],
     "body": lambda words, code: text_of(counted(words)(code)),
     "table": lambda _, code: text_of(Reader(code)),
     "kept": lambda _, code: ["".join(hexadecimal(code))],

@@ -151,11 +151,7 @@ def order_by_names(dumps):
 
 def indexes_by_address(dumps):
     """The first dump at each address."""
-    at = {}
-    for index, dump in enumerate(dumps):
-        if dump.address is not None:
-            at.setdefault(dump.address, index)
-    return at
+    return {dump.address: index for index, dump in reversed([*enumerate(dumps)]) if dump.address is not None}
 
 
 def order_by_chain(dumps):

@@ -34,15 +34,13 @@ def read_folder(folder):
     contents = [read_file(os.path.join(place, name.encode()), name) for name in dumps]
     addresses = {}
     if MAP_NAME in names:
-        text = read_file(os.path.join(place, MAP_NAME.encode()), MAP_NAME)
-        addresses = read_lines(text, MAP_NAME, MAP_NAME, lambda: parse_map(text, dumps))
+        addresses = read_lines(os.path.join(place, MAP_NAME.encode()), MAP_NAME, MAP_NAME, parse_map, dumps)
     return [Dump(name, addresses.get(name.encode()), data) for name, data in zip(dumps, contents)]
 
 
 def read_externals(file):
     """The paths in a file with their counts, in the order of its lines."""
-    text = read_file(file, file)
-    return read_lines(text, file, "externals", lambda: parse_externals(text))
+    return read_lines(file, file, "externals", parse_externals)
 
 
 def file_names(folder):
@@ -64,12 +62,13 @@ def read_file(path, name):
         raise Unreadable(f"cannot read {file_text(name)}") from error
 
 
-def read_lines(text, name, what, parse):
+def read_lines(path, name, what, parse, *more):
     """What is parsed of the text of a file, which may not be too long."""
+    text = read_file(path, name)
     if len(text) > MOST_BYTES:
         raise Unreadable(f"cannot read {file_text(name)}")
     try:
-        return parse()
+        return parse(text, *more)
     except LineFault as fault:
         raise Unreadable(f"{what} line {fault.line}: {fault}") from fault
 

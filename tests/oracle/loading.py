@@ -1,7 +1,6 @@
 """The namespace of several tables after docs/names.md, and the bodies of their methods."""
 
 from collections import namedtuple
-from dataclasses import dataclass
 
 from reading import ALIAS, EXTERNAL, FIELD_LISTS, IF, KINDS, METHOD, SCOPE, SCOPES, Named, Op, Reader, Refused
 
@@ -16,30 +15,14 @@ PREDEFINED = {
 }
 
 
-class Unloadable(Exception):
-    """Why tables can't be loaded: a fault, and the number of its table, if it is about one."""
-
-    def __init__(self, fault, table):
-        super().__init__(str(fault))
-        self.table = table
-
-
 def path_text(path):
     return "\\" + ".".join(path)
 
 
 # Where the body of a method stands: its table, and the offsets of its first byte and behind its last
 Method = namedtuple("Method", "path table start end")
-
-
-@dataclass
-class Body:
-    """The body of a method, with its terms or the fault for which it has none."""
-
-    method: Method
-    code: bytes
-    terms: list | None = None
-    fault: Refused | None = None
+# The body of a method, with its terms or the fault for which it has none
+Body = namedtuple("Body", "method code terms fault", defaults=[None, None])
 
 
 class Namespace:
@@ -174,12 +157,11 @@ class Loaded(namedtuple("Loaded", "codes trees space")):
         return [self.body(method, unknown_zero) for method in self.space.methods]
 
     def body(self, method, unknown_zero):
-        body = Body(method, self.codes[method.table][method.start:method.end])
+        code = self.codes[method.table][method.start:method.end]
         try:
-            body.terms = Reader(body.code, self.space.arity(method.path, unknown_zero), method.path).read()
+            return Body(method, code, Reader(code, self.space.arity(method.path, unknown_zero), method.path).read())
         except Refused as fault:
-            body.fault = fault
-        return body
+            return Body(method, code, fault=fault)
 
 
 def load(codes, given=()):
@@ -193,5 +175,6 @@ def load(codes, given=()):
             if loaded.space.arity(scope)((), name):
                 raise Refused("ModuleCall")
     except Refused as fault:
-        raise Unloadable(fault, None if fault.name == "TooManyMethods" else table) from fault
+        fault.table = None if fault.name == "TooManyMethods" else table
+        raise
     return loaded

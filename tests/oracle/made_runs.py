@@ -102,9 +102,13 @@ class RunMaker(Maker):
 
     def parts(self, opcode, depth, inside):
         self.opcode = opcode
-        if opcode == METHOD and not self.is_strange("table"):
-            return self.method_parts()
-        return super().parts(opcode, depth, inside)
+        if opcode != METHOD or self.is_strange("table"):
+            return super().parts(opcode, depth, inside)
+        # A method has mostly the count that its name has already.
+        name = self.new_or_known_name()
+        told = self.space.arity(self.scope)((), name)
+        count = self.chance.choice(ARGUMENT_COUNTS) if told is None else self.same_or_other(told)
+        return self.declared_name(name, count) + bytes([count | self.chance.choice((0x00, 0x08, 0xF0))])
 
     def part(self, kind, opcode, depth, inside):
         self.opcode = opcode
@@ -113,13 +117,6 @@ class RunMaker(Maker):
         return super().part(kind, opcode, depth, inside)
 
     # ---- names
-
-    def method_parts(self):
-        """The name and the flags of a method: mostly with the count that its name has already."""
-        name = self.new_or_known_name()
-        told = self.space.arity(self.scope)((), name)
-        count = self.chance.choice(ARGUMENT_COUNTS) if told is None else self.same_or_other(told)
-        return self.declared_name(name, count) + bytes([count | self.chance.choice((0x00, 0x08, 0xF0))])
 
     def new_name(self, inside, count=0):
         if inside != "table" or self.is_strange(inside):

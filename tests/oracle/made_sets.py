@@ -1,6 +1,6 @@
 """Makes up folders of dumps with the options of a run: most of them to be taken, the others near that."""
 
-from dataclasses import dataclass
+from collections import namedtuple
 
 from dumps import FACS, LISTS, MOST_BYTES, RECORDS, ROOT
 from folders import MAP_NAME
@@ -22,14 +22,9 @@ BAD_LINES = [
 LIST_FILES = ["xsdt.dat", "rsdt.dat"]
 
 
-@dataclass
-class Trial:
-    """The contents of files by name, the options of a run over a folder of them, and the content of the file that
-    `--externals` names, where the run has this option."""
-
-    files: dict
-    options: Options
-    externals: bytes | None = None
+# The contents of files by name, the options of a run over a folder of them, and the content of the file that
+# `--externals` names, where the run has this option
+Trial = namedtuple("Trial", "files options externals", defaults=[None])
 
 
 def sealed(data):
@@ -105,9 +100,7 @@ class SetMaker(Chancy):
     def trial(self):
         self.given, self.paths = {}, []
         trial = self.plain_trial()
-        if self.gives and self.happens(0.8):
-            trial.externals = self.externals()
-        return trial
+        return trial._replace(externals=self.externals()) if self.gives and self.happens(0.8) else trial
 
     def plain_trial(self):
         if self.known and self.happens(0.4):

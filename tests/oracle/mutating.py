@@ -5,12 +5,12 @@ import contextlib
 import functools
 import re
 from collections import namedtuple
-from dataclasses import dataclass, field
+from dataclasses import dataclass
 
 from any_run import RunNamespace, RunReader
 from dumps import HEADER_LENGTH
 from folders import MAP_NAME
-from loading import Unloadable, load
+from loading import load
 from made_code import LIKELY_BYTES, WIDEST, damaged, package_length
 from made_sets import BLOCKS, Trial, sealed
 from reading import EXTERNAL, METHOD, ROWS, Reader, Refused, is_name_lead
@@ -28,14 +28,12 @@ class Package(namedtuple("Package", "at width end")):
         return self.at + self.width <= span.start and span.end <= self.end
 
 
-@dataclass
 class Layout:
     """Where the terms and the packages of a table's AML stand, as far as it can be read, and which of the terms stand in
     the bodies of methods."""
 
-    terms: list = field(default_factory=list)
-    in_bodies: list = field(default_factory=list)
-    packages: list = field(default_factory=list)
+    def __init__(self):
+        self.terms, self.in_bodies, self.packages = [], [], []
 
 
 @dataclass
@@ -43,7 +41,7 @@ class Surveying:
     """What a reader does that keeps in a `layout` where terms and packages stand. Its code is that of a table from the byte
     `base` on."""
 
-    layout: Layout = field(default_factory=Layout)
+    layout: Layout | None = None
     base: int = 0
 
     def survey(self):
@@ -85,7 +83,7 @@ def layouts_of(codes, any_run=False):
     for table, (code, layout) in enumerate(zip(codes, layouts)):
         how = {"space": space, "table": table} if any_run else {}
         (RunSurveyor if any_run else Surveyor)(code, layout=layout, **how).survey()
-    with contextlib.suppress(Unloadable):
+    with contextlib.suppress(Refused):
         space = space if any_run else load(codes).space
     for method in space.methods:
         body = codes[method.table][method.start:method.end]
@@ -112,9 +110,10 @@ class Mutator:
 
     def __init__(self, chance, others):
         self.chance, self.others = chance, others
+        cut = lambda code, _: code[:chance.randrange(len(code))]
         replace = lambda code, layout: replaced(code, layout, self.span(layout), chance.choice(others or [b"\xa3"]))
         self.ways = [
-            self.flip, self.damage, self.cut, self.rename, self.change_term, self.move_term, replace, self.wrap,
+            self.flip, self.damage, cut, self.rename, self.change_term, self.move_term, replace, self.wrap,
             self.change_opcode, self.change_flags,
         ]
         self.ways_of_packages = [self.change_length, self.stretch_all]
@@ -140,9 +139,6 @@ class Mutator:
     def damage(self, code, layout):
         start, end = span = self.span(layout)
         return replaced(code, layout, span, damaged(self.chance, code[start:end])) if code else damaged(self.chance, code)
-
-    def cut(self, code, _):
-        return code[:self.chance.randrange(len(code))]
 
     def rename(self, code, layout):
         places = [match.start() for match in SEGMENT.finditer(code)]
@@ -213,11 +209,9 @@ class Mutator:
 
 def name_end(code, at):
     """Where the name at an offset ends, or the offset itself where none stands there."""
-    if at < len(code) and is_name_lead(code[at]):
-        try:
+    with contextlib.suppress(Refused):
+        if at < len(code) and is_name_lead(code[at]):
             return Reader(code).name(at, len(code))[1]
-        except Refused:
-            pass
     return at
 
 
@@ -232,9 +226,9 @@ class SetMutator:
     def __init__(self, chance, any_run=False):
         self.chance, self.any_run, self.terms = chance, any_run, []
         self.mutator = Mutator(chance, self.terms)
-        self.ways = [
-            self.file_bytes, self.header, self.file_cut, self.file_more, self.without_file, self.with_copy, self.halves,
-        ]
+        more = lambda files, name: {**files, name: files[name] + chance.randbytes(chance.choice((1, 4, 40)))}
+        without = lambda files, name: {kept: data for kept, data in files.items() if kept != name}
+        self.ways = [self.file_bytes, self.header, self.file_cut, more, without, self.with_copy, self.halves]
 
     def learn(self, files):
         """Keeps terms of a set to be put into others, in place of some of those kept."""
@@ -281,12 +275,6 @@ class SetMutator:
         data = files[name][:self.chance.randrange(len(files[name]) + 1)]
         return {**files, name: self.summed(data) if is_block(data) else data}
 
-    def file_more(self, files, name):
-        return {**files, name: files[name] + self.chance.randbytes(self.chance.choice((1, 4, 40)))}
-
-    def without_file(self, files, name):
-        return {kept: data for kept, data in files.items() if kept != name}
-
     def with_copy(self, files, name):
         """One more file, with what another has, mostly as an SSDT."""
         data = files[name]
@@ -328,7 +316,7 @@ class MutatedMaker:
             trial = self.maker.trial()
             self.mutator.learn(trial.files)
         for _ in range(self.chance.choice((1, 1, 1, 2, MOST_CHANGES))):
-            trial.files = self.mutator.mutated(trial.files)
+            trial = trial._replace(files=self.mutator.mutated(trial.files))
         return trial
 
     def known_externals(self, files):

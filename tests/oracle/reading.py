@@ -14,11 +14,12 @@ sys.setrecursionlimit(20_000)
 
 
 class Refused(Exception):
-    """A fault: its name, and the offset or the path that goes with it."""
+    """A fault: its name, the offset or the path that goes with it, and, where tables are loaded, the number of its
+    table, if it is about one."""
 
     def __init__(self, name, at=None, path=None):
         super().__init__(name)
-        self.name, self.at, self.path = name, at, path
+        self.name, self.at, self.path, self.table = name, at, path, None
 
     def __str__(self):
         return self.name + (f" at {self.at}" if self.at is not None else "") + (f" {self.path}" if self.path else "")
@@ -146,7 +147,7 @@ class Reader:
             byte = self.byte(at + n, end)
             if not (is_lead_char(byte) or n and 0x30 <= byte <= 0x39):
                 raise Refused("BadName", at + n)
-        return self.code[at:at + 4].decode(), at + 4
+        return self.code[at:at + 4].decode()
 
     def name(self, at, end):
         root = self.byte(at, end) == 0x5C
@@ -163,11 +164,8 @@ class Reader:
             count, at = self.byte(at + 1, end), at + 2
             if not count:
                 raise Refused("BadName", at - 1)
-        segs = []
-        for _ in range(count):
-            seg, at = self.segment(at, end)
-            segs.append(seg)
-        return Name(root, ups, segs), at
+        segs = [self.segment(place, end) for place in range(at, at + 4 * count, 4)]
+        return Name(root, ups, segs), at + 4 * count
 
     def segmented(self, at, end):
         name, rest = self.name(at, end)
@@ -193,9 +191,7 @@ class Reader:
             return self.named(at, end, position, level)
         if position == "S" and lead == 0x00:
             return Nothing(), at + 1
-        opcode, rest = lead, at + 1
-        if lead == 0x5B:
-            opcode, rest = 0x5B00 | self.byte(at + 1, end), at + 2
+        opcode, rest = (0x5B00 | self.byte(at + 1, end), at + 2) if lead == 0x5B else (lead, at + 1)
         if opcode not in ROWS:
             raise Refused("UnknownOp", at)
         fault = misplaced(opcode, position, behind_if)
@@ -227,28 +223,26 @@ class Reader:
             value, width = self.length(at, end)
             if value < width or at + value > end:
                 raise Refused("PkgPast", at)
-            at, end_of_span = at + width, at + value
-        else:
-            end_of_span = end
-        if position == "module" and opcode == IF and self.byte(at, end_of_span) != 0x00:
+            at, end = at + width, at + value
+        if position == "module" and opcode == IF and self.byte(at, end) != 0x00:
             raise Refused("ModuleCode", start)
         parts = []
         for kind in row.parts:
-            part, at = self.part(at, end_of_span, kind, opcode, len(parts), level)
+            part, at = self.part(at, end, kind, opcode, len(parts), level)
             parts.append(part)
         term = Op(opcode, parts)
         if row.tail == "t":
-            term.tail = self.block(term, at, end_of_span, level)
+            term.tail = self.block(term, at, end, level)
         elif row.tail == "e":
-            term.tail = self.terms(at, end_of_span, "D", level + 1)
+            term.tail = self.terms(at, end, "D", level + 1)
         elif row.tail == "y":
-            term.tail = self.code[at:end_of_span]
+            term.tail = self.code[at:end]
         elif row.tail == "f":
-            term.tail = self.units(at, end_of_span, level)
+            term.tail = self.units(at, end, level)
         elif row.tail == "b":
-            term.tail = at, end_of_span
+            term.tail = at, end
         self.leave(term)
-        return term, end_of_span if row.tail else at
+        return term, end if row.tail else at
 
     def block(self, term, at, end, level):
         """The terms inside a term."""
@@ -291,9 +285,9 @@ class Reader:
             elif lead == 0x03:
                 unit, at = ("extended", *(self.byte(at + n, end) for n in (1, 2, 3))), at + 4
             else:
-                seg, at = self.segment(at, end)
-                bits, width = self.length(at, end)
-                unit, at = ("unit", seg, bits), at + width
+                seg = self.segment(at, end)
+                bits, width = self.length(at + 4, end)
+                unit, at = ("unit", seg, bits), at + 4 + width
             units.append(unit)
         return units
 
@@ -318,13 +312,11 @@ def misplaced(opcode, position, behind_if):
         return None if opcode == EXTERNAL else "ModuleCode"
     if position == "run" and opcode == RETURN:
         return "ModuleCode"
-    if position == "run":
-        return "StrayElse" if opcode == ELSE and not behind_if else None
-    if position == "body":
-        if opcode == METHOD:
-            return "NestedMethod"
-        if opcode in SCOPES:
-            return "NestedScope"
+    if position == "body" and opcode == METHOD:
+        return "NestedMethod"
+    if position == "body" and opcode in SCOPES:
+        return "NestedScope"
+    if position in ("run", "body"):
         return "StrayElse" if opcode == ELSE and not behind_if else None
     taken = group in ("value", "expression") if position == "T" else opcode in (TARGETS if position == "S" else DATA)
     return None if taken else "NotHere"

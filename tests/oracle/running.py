@@ -16,8 +16,9 @@ from trying import asked
 import any_run
 from dumps import Bad, aml_of, dump_lines, order_of
 from folders import Unreadable, read_externals, read_folder
-from loading import Unloadable, load, path_text
+from loading import load, path_text
 from printing import block_lines, file_text, namespace_lines
+from reading import Refused
 
 DONE, REFUSED, RAW = 0, 1, 3
 
@@ -86,7 +87,7 @@ def run(dumps, options, given=()):
     codes = [aml_of(dumps[index].data) for index in order]
     try:
         loaded = any_run.load(codes, given, options.unknown_zero) if options.any_run else load(codes, given)
-    except Unloadable as fault:
+    except Refused as fault:
         return refused_dump(dumps, None if fault.table is None else order[fault.table], fault)
     bodies = loaded.bodies(options.unknown_zero)
     names = [dumps[index].name for index in order]

@@ -54,13 +54,6 @@ def found(run, scope, name):
     return next((path for path in name.candidates(scope) if kind_at(run, path)), None)
 
 
-def runs_of(tables):
-    runs = [{}]
-    for terms in tables:
-        runs = behind_all(runs, (), terms)
-    return runs
-
-
 def behind_all(runs, scope, terms):
     """How runs may be behind some terms, each of which they meet."""
     for term in terms:
@@ -72,31 +65,22 @@ def behind_all(runs, scope, terms):
 def behind(run, scope, term):
     """How a run may be behind a term."""
     if term.word in BLOCKS:
-        return behind_block(run, scope, term.inside)
+        runs = ends = [run]
+        for inner in term.inside:
+            runs = behind_all(runs, scope, [inner])
+            ends = ends + runs
+        return ends
     if term.word == "Scope":
-        return behind_scope(run, scope, term)
+        path = found(run, scope, term.names[0])
+        word = kind_at(run, path)[0] if path is not None else None
+        inside = behind_all([run], path, term.inside) if word in {"Name", *SCOPES} else []
+        return inside if word in SCOPES else [run, *inside]
     if term.word == "Field":
         return behind_all([run], scope, term.inside)
     path, kind = term.names[-1].placed(scope), kind_of(run, scope, term)
     if path is None or kind is None or path in run or not kind_at(run, path[:-1]):
         return [run]
     return behind_all([{**run, path: kind}], path, term.inside)
-
-
-def behind_block(run, scope, terms):
-    runs = ends = [run]
-    for term in terms:
-        runs = behind_all(runs, scope, [term])
-        ends = ends + runs
-    return ends
-
-
-def behind_scope(run, scope, term):
-    path = found(run, scope, term.names[0])
-    word = kind_at(run, path)[0] if path is not None else None
-    if word in SCOPES:
-        return behind_all([run], path, term.inside)
-    return [run, *behind_all([run], path, term.inside)] if word == "Name" else [run]
 
 
 def kind_of(run, scope, term):
@@ -221,7 +205,7 @@ def outcome_of(program, chance, codes):
 def compared(program, chance, tables):
     """Of each count in a run, with that run, None where it is told so, else what is wrong. None where there are too
     many runs."""
-    runs = runs_of(tables)
+    runs = behind_all([{}], (), itertools.chain.from_iterable(tables))
     if len(runs) > MOST_RUNS:
         return None
     questions = list(questions_of(chance, runs))
