@@ -46,7 +46,8 @@ OUTERMOST = b"X000"
 # The picture: seconds by set on a logarithmic axis
 WIDTH, LEFT, RIGHT = 860, 130, 110
 ABOVE, BAR, GAP, FOOT = 62, 15, 14, 44
-LEAST, MOST = 0.001, 100.0
+TICKS = 0.001, 0.01, 0.1, 1, 10, 100
+LEAST, MOST = TICKS[0], TICKS[-1]
 INK, GRID, PAPER = "#222222", "#dddddd", "#ffffff"
 COLOURS = ("#0b5fa5", "#7db8e8", "#d9822b")
 
@@ -170,8 +171,8 @@ def across(seconds):
     return LEFT + share * (WIDTH - LEFT - RIGHT)
 
 
-def text(x, y, words, anchor="start", colour=INK):
-    return f'<text x="{x:.1f}" y="{y:.1f}" text-anchor="{anchor}" fill="{colour}">{escape(words)}</text>\n'
+def text(x, y, words, anchor="start"):
+    return f'<text x="{x:.1f}" y="{y:.1f}" text-anchor="{anchor}" fill="{INK}">{escape(words)}</text>\n'
 
 
 def rectangle(x, y, width, height, colour, more=""):
@@ -193,25 +194,16 @@ def bar(y, answer, limit, colour):
     return rectangle(LEFT, y, width, BAR - 2, colour) + text(LEFT + width + 5, y + 11, short(answer.seconds))
 
 
-def legend(labels):
-    drawn, x = "", LEFT
-    for label, colour in zip(labels, COLOURS):
-        drawn += rectangle(x, 34, 12, 12, colour) + text(x + 17, 44.5, label)
-        x += 45 + 7 * len(label)
-    return drawn
-
-
 def axis(bottom):
-    drawn, seconds = "", LEAST
-    while seconds < MOST * 1.01:
+    drawn = ""
+    for seconds in TICKS:
         x = across(seconds)
         drawn += f'<line x1="{x:.1f}" y1="{ABOVE - 6}" x2="{x:.1f}" y2="{bottom}" stroke="{GRID}"/>\n'
         drawn += text(x, bottom + 16, f"{seconds * 1000:g} ms" if seconds < 0.99 else f"{seconds:.0f} s", "middle")
-        seconds *= 10
     return drawn
 
 
-def picture(all_figures, limit, workers):
+def picture(all_figures, limit):
     group = 3 * BAR + GAP
     bottom = ABOVE + group * len(all_figures) - GAP + 6
     height = bottom + FOOT
@@ -219,7 +211,10 @@ def picture(all_figures, limit, workers):
     drawn += ' font-family="sans-serif" font-size="12" role="img">\n'
     drawn += "<title>Seconds by set: acpidis and iasl -d</title>\n" + rectangle(0, 0, WIDTH, height, PAPER)
     drawn += text(LEFT, 20, "Seconds for a whole run, on a logarithmic axis; shorter is faster")
-    drawn += legend(("acpidis, 1 worker", f"acpidis, {workers} workers", "iasl -d"))
+    x = LEFT
+    for label, colour in zip(("acpidis, 1 worker", f"acpidis, {MOST_WORKERS} workers", "iasl -d"), COLOURS):
+        drawn += rectangle(x, 34, 12, 12, colour) + text(x + 17, 44.5, label)
+        x += 45 + 7 * len(label)
     drawn += axis(bottom)
     for number, figures in enumerate(all_figures):
         y = ABOVE + number * group
@@ -249,7 +244,7 @@ def main():
     if not mark or not end:
         sys.exit("README.md has no place for the figures")
     README.write_text(before + mark + text + end + after)
-    PICTURE.write_text(picture(all_figures, words.seconds, MOST_WORKERS))
+    PICTURE.write_text(picture(all_figures, words.seconds))
 
 
 if __name__ == "__main__":

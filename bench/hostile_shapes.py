@@ -42,12 +42,12 @@ def device(code, name=b"DEV0"):
     return made_aml.device(name, code, width=1)
 
 
-def within(segments, code):
-    """AML in a scope of so many segments: Devices of up to 255, one in the other."""
+def within(segments, code, others=lambda _: b""):
+    """AML in a scope of so many segments: Devices of up to 255, one in the other, each with others in front."""
     while segments:
         count = segments % SEGMENTS or SEGMENTS
         segments -= count
-        code = device(code, b"\x2f" + bytes([count]) + each(count))
+        code = device(others(count) + code, b"\x2f" + bytes([count]) + each(count))
     return code
 
 
@@ -107,13 +107,8 @@ def upward_with_locals(count, depth, friends=b""):
 
 def upward_crowded(count, depth):
     """Names at the root, used in a method of a scope of so many segments, each of whose parents has another child."""
-    code = main_method(uses(count))
-    while depth:
-        segments = depth % SEGMENTS or SEGMENTS
-        depth -= segments
-        others = b"".join(b"\x15" + b"^" * up + OTHER + b"\0\0" for up in range(1, segments + 1))
-        code = within(segments, others + code)
-    return named(count) + code
+    others = lambda segments: b"".join(b"\x15" + b"^" * up + OTHER + b"\0\0" for up in range(1, segments + 1))
+    return named(count) + within(depth, main_method(uses(count)), others)
 
 
 def upward_turning(count, depth):
