@@ -25,14 +25,19 @@ def facts_of(data: bytes, room: pathlib.Path) -> "dict[str, list] | None":
         return None
     text = re.sub(r"//.*|/\*.*?\*/", "", (room / "table.dsl").read_text("latin-1"))
     # The standard's word has a capital O.
-    text = text.partition("DefinitionBlock")[2]
+    text = bare = text.partition("DefinitionBlock")[2]
+    # What stands in the braces of each ResourceTemplate, whose macros may have braces of their own, and in the
+    # parentheses of each Connection; and the text without the latter
+    templates = [text[start:end] for start, end in enclosed(text, r"ResourceTemplate \(\)\s*\{|Connection \(")]
+    for start, end in reversed(list(enclosed(text, r"Connection \("))):
+        bare = bare[:start] + bare[end:]
     return {
-        "resources": [line for template in templates(text) for line in map(macro_text, MACRO.finditer(template))],
+        "resources": [line for template in templates for line in map(macro_text, MACRO.finditer(template))],
         "UUIDs": [found.lower() for found in re.findall(r'ToUUID \("([^"]*)"\)', text)],
         "EISA ids": re.findall(r'EisaId \("([^"]*)"\)', text),
         "spaces": [f"{name.rpartition('.')[2].ljust(4, '_')} {space}" for name, space in SPACE.findall(text)],
         "flags": [", ".join(form[1].split(", ")[-3:]) for form in map(FIELD.match, text.splitlines()) if form],
-        "units": list(units(without_connections(text))),
+        "units": list(units(bare)),
     }
 
 
@@ -44,19 +49,6 @@ def enclosed(text: str, heads: str):
             depth += (text[at] == left) - (text[at] == right)
             at += 1
         yield head.end(), at - 1
-
-
-def templates(text: str) -> "list[str]":
-    """What stands in the braces of each ResourceTemplate, whose macros may have braces of their own, and in the
-    parentheses of each Connection."""
-    return [text[start:end] for start, end in enclosed(text, r"ResourceTemplate \(\)\s*\{|Connection \(")]
-
-
-def without_connections(text: str) -> str:
-    """The text without what stands in the parentheses of each Connection."""
-    for start, end in reversed(list(enclosed(text, r"Connection \("))):
-        text = text[:start] + text[end:]
-    return text
 
 
 def units(text: str):

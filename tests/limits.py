@@ -50,11 +50,8 @@ def limited(option, limit, *words):
 
 def least_memory(program):
     """The least memory with which the program starts at all: below it the system doesn't load it."""
-    for limit in range(LEAST, MOST_TO_START + 1, 500):
-        outcome = limited("-v", limit, program, "--version")
-        if outcome.status == DONE and "acpidis" in outcome.out:
-            return limit
-    return None
+    runs = ((limit, limited("-v", limit, program, "--version")) for limit in range(LEAST, MOST_TO_START + 1, 500))
+    return next((limit for limit, it in runs if it.status == DONE and "acpidis" in it.out), None)
 
 
 class Checks(Tally):

@@ -210,13 +210,6 @@ def options_in(text):
     return set(re.findall(r"--[a-z][a-z-]*", text))
 
 
-def words_of_program():
-    """The words of standard error: the first of each message in the sources, where it is one."""
-    form = r'(?:#\[error\("|"acpidis: |Fault::\w+(?:\(_\))? => f\.write_str\(")([^"{]+)'
-    messages = [it for source in TOP.glob("crates/*/src/**/*.rt") for it in re.findall(form, source.read_text())]
-    return {word for message in messages for word in re.findall(r"^[A-Z][A-Za-z]+", message)}
-
-
 def section(manual, name):
     return "".join(re.findall(rf"^\.SH {name}\n(.*?)^\.SH", manual, re.MULTILINE | re.DOTALL)[:1])
 
@@ -226,7 +219,11 @@ def check_words(checks):
     readme = (TOP / README).read_text().partition("\n## Options")[2].partition("\n## ")[0]
     manual = (TOP / MANUAL).read_text().replace("\\-", "-")
     headings = "\n".join(re.findall(r"^(?:\.BR? |acpidis: )(.*)$", section(manual, "DIAGNOSTICS"), re.MULTILINE))
-    options, words = options_in(printed_by([TOP / "acpidis", "--any-sum", "--help"])), words_of_program()
+    options = options_in(printed_by([TOP / "acpidis", "--any-sum", "--help"]))
+    # The words of standard error: the first of each message in the sources, where it is one
+    form = r'(?:#\[error\("|"acpidis: |Fault::\w+(?:\(_\))? => f\.write_str\(")([^"{]+)'
+    messages = [it for source in TOP.glob("crates/*/src/**/*.rt") for it in re.findall(form, source.read_text())]
+    words = {word for message in messages for word in re.findall(r"^[A-Z][A-Za-z]+", message)}
     cells = re.findall(r"^\| `([^`]*)`", (TOP / REFUSALS).read_text(), re.MULTILINE)
     for name, got, wanted in [
         ("options of the manual", options_in(section(manual, "OPTIONS")), options),

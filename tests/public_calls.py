@@ -32,12 +32,6 @@ CALL = re.compile(r"(?:(\.)|\b(\w+)(?:::<[^()]*>)?::)?\b([a-z_]\w*)\b")
 Function = collections.namedtuple("Function", "crate type name trait public text")
 
 
-def crates_below():
-    """The crates of the repository that each stands on, itself among them."""
-    names = re.findall(r"^(\w+).*:", (TOP / "crates.txt").read_text(), re.M)
-    return {name: set(BUILD.crates([name])) for name in names}
-
-
 def functions_in(crate):
     """The functions of a crate that have a body."""
     for file, text in sources_in(str(TOP / "crates" / crate)).items():
@@ -54,17 +48,16 @@ def functions_in(crate):
             yield Function(crate, block["type"] if block else None, name, trait, public, text[it.start : it.end])
 
 
-def exported(crate):
+def exported(crate, crates):
     """The names of a crate's own items that others can use."""
     text = (TOP / "crates" / crate / "src/lib.rt").read_text()
     found = re.findall(r"^pub use (\w+)(?:::\w+)*::(?:\{(.*?)\}|(\w+));", text, re.M | re.S)
-    crates = crates_below()
     return {name for head, names, one in found if head not in crates for name in re.findall(r"\w+", names or one)}
 
 
-def surface(functions):
+def surface(functions, crates):
     """The public functions of all crates but programs and tests, by their crates and names. Laws aren't among them."""
-    names = {crate: exported(crate) for crate in {it.crate for it in functions} - NOT_SURFACE}
+    names = {crate: exported(crate, crates) for crate in {it.crate for it in functions} - NOT_SURFACE}
     for it in functions:
         is_law = re.search(rf"^pub fn {it.name}\(\)$", it.text, re.M)
         if it.public and not is_law and it.crate in names and (it.type or it.name) in names[it.crate]:
@@ -101,28 +94,29 @@ def called_from(functions, crate, below):
 
 
 def table():
-    """The functions of each part, as the table has them."""
-    parts, part = {}, None
+    """The functions that the table has, each with its part."""
+    part = None
     for line in TABLE.read_text().splitlines():
         head = re.fullmatch(r"\[(\w+)\].*", line)
         if head:
-            part = parts.setdefault(head[1], [])
+            part = head[1]
         elif line and not line.startswith("#"):
             crate, _, names = line.partition(": ")
-            part += [f"{crate}::{name}" for name in names.split()]
-    return parts
+            yield from ((part, f"{crate}::{name}") for name in names.split())
 
 
 def main():
-    below = crates_below()
+    # The crates of the repository that each stands on, itself among them
+    names = re.findall(r"^(\w+).*:", (TOP / "crates.txt").read_text(), re.M)
+    below = {name: set(BUILD.crates([name])) for name in names}
     functions = [it for crate in below for it in functions_in(crate)]
-    public = sorted({title(it) for it in surface(functions)})
+    public = sorted({title(it) for it in surface(functions, below)})
     called = {part: called_from(functions, crate, below) for part, crate in PARTS.items()}
-    told, checks = table(), Tally()
+    told, checks = list(table()), Tally()
     for name in public:
-        is_told = any(name in names for names in told.values())
+        is_told = any(name == it for _, it in told)
         checks.is_so(f"{name}: no part of ./test is named that compares what it answers", is_told)
-    for part, name in [(part, name) for part, names in told.items() for name in names]:
+    for part, name in told:
         wrong = "there is no such public function" if name not in public else f"the part '{part}' doesn't call it"
         checks.is_so(f"{name}: {wrong}", name in public and name in called.get(part, ()))
     checks.end()

@@ -7,6 +7,7 @@ constant, for one with a goal that it can't show, and can't read the word UNREAD
 
 import pathlib
 import re
+import types
 
 from tally import TOP, Tally, executable
 import wrong_bodies as tried
@@ -49,29 +50,25 @@ TRIALS = [
 ]
 
 
-class Crate:
-    """The made-up crate, as the kit's library gives one."""
-
-    name = "made_up"
-
-    def words(self, flags, keeps):
-        return ["--crate-name", self.name, "src/lib.rt", *flags]
+# The made-up crate, as the kit's library gives one
+WORDS = ["--crate-name", "made_up", "src/lib.rt"]
+CRATE = types.SimpleNamespace(name="made_up", words=lambda flags, keeps: [*WORDS, *flags])
 
 
 def check_trials(checks, room):
     """Whether each trial gets the verdicts that it has to, by as many checks."""
     tried.TOP, log = room, pathlib.Path(room, "log")
-    files = {f"crates/{Crate.name}/{name}": text for name, text in SOURCES.items()}
+    files = {f"crates/{CRATE.name}/{name}": text for name, text in SOURCES.items()}
     for name, text in {**files, "prover": PROVER.format(log=log)}.items():
         executable(pathlib.Path(room, name), text)
-    kit = type("Kit", (), {"RATTLE": f"{room}/prover"})
+    kit = types.SimpleNamespace(RATTLE=f"{room}/prover")
     for count, bodies in TRIALS:
         log.write_text("")
         waiting = [
             tried.WrongBody(name, [(file, old, new)], {tried.place_at(file, SOURCES[file], SOURCES[file].index(old))})
             for name, file, old, new, *_ in bodies
         ]
-        found = dict(tried.judged(kit, Crate(), waiting, f"{room}/kept", is_seeded=False))
+        found = dict(tried.judged(kit, CRATE, waiting, f"{room}/kept", is_seeded=False))
         runs, wanted = log.read_text().splitlines(), {name: (kind, words) for name, *_, kind, words in bodies}
         told = {name: (it.kind, wanted[name][1] in it.reason and wanted[name][1]) for name, it in found.items()}
         checks.is_same(f"{', '.join(wanted)}: {found} by {runs}", (told, len(runs)), (wanted, count))
