@@ -5,7 +5,7 @@ from collections import namedtuple
 
 from acpidis_tools import listing, running
 from acpidis_tools.asl import fields, language, terms
-from acpidis_tools.asl.names import Externals, Names, Scope, TooDeep, Use
+from acpidis_tools.asl.names import Externals, Names, Scope, Use
 
 TABLE = re.compile(r'Table ("[^"]*") ("[^"]*") Length \d+ Revision (\d{1,3}) Oem ("[^"]*") ("[^"]*") ([0-9A-F]{8}) Creator .*')
 RAW = "Raw {"
@@ -69,7 +69,7 @@ class Block:
     def close(self, indent):
         self.open.pop()
         if self.open:
-            self.names.close()
+            self.names.open.pop()
             self.lines.append(indent + "}")
             self.closed()
         else:
@@ -117,9 +117,12 @@ class MethodBlock(Block):
             self.begun = Found(self, node)
 
     def closed(self):
-        if self.begun and len(self.open) == self.begun.depth:
-            self.begun.end(self)
-            self.found.append(self.begun)
+        found = self.begun
+        if found and len(self.open) == found.depth:
+            found.lines, found.told = self.lines[found.at :], self.told[found.told_at :]
+            found.uses = self.names.uses[found.uses_at :]
+            del self.lines[found.at :]
+            self.found.append(found)
             self.begun = None
 
 
@@ -129,11 +132,6 @@ class Found:
     def __init__(self, block, node):
         self.block, self.table, self.node, self.number, self.depth = block, block.table, node, block.number, len(block.open)
         self.at, self.told_at, self.uses_at = len(block.lines), len(block.told), len(block.names.uses)
-
-    def end(self, block):
-        self.lines = block.lines[self.at :]
-        self.told, self.uses = block.told[self.told_at :], block.names.uses[self.uses_at :]
-        del block.lines[self.at :]
 
     def text(self, rows, said):
         names, indent = self.block.names, len(self.lines[0]) - len(self.lines[0].lstrip()) - 2
@@ -165,17 +163,12 @@ class Reader:
             if block.file not in tables:
                 raise misread(number)
             self.blocks.append(self.make(tables.pop(block.file), self.space))
-            self.turn(block)
+            for line in block.lines[1:]:
+                try:
+                    self.blocks[-1].add(line.number, line.text)
+                except ValueError as fault:
+                    raise misread(line.number) from fault
         listing.check_blocks(dumps, self.blocks, len(lines.lines))
-
-    def turn(self, block):
-        for line in block.lines[1:]:
-            try:
-                self.blocks[-1].add(line.number, line.text)
-            except (terms.Misread, ValueError) as fault:
-                raise misread(line.number) from fault
-            except TooDeep as fault:
-                raise listing.NoListing(f"line {line.number}: {fault}") from fault
 
 
 def misread(number):

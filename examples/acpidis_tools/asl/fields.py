@@ -5,7 +5,7 @@ import re
 
 from acpidis_tools import standard
 from acpidis_tools.asl import language
-from acpidis_tools.asl.terms import NAME, Misread, picked, plain
+from acpidis_tools.asl.terms import NAME, picked, plain
 from acpidis_tools.listing import SEGMENT
 
 UNIT = re.compile(rf"({SEGMENT}|Reserved), (\d{{1,9}})")
@@ -27,7 +27,7 @@ def element(text, tell):
     if access:
         return of_access([int(number, 16) for number in access[1].split(", ")], tell), None, None
     if not link:
-        raise Misread
+        raise ValueError("none of a listing")
     name = link[1] if NAME.fullmatch(link[1]) else None
     return connection(link[1], tell) + ",", None, name
 
@@ -58,7 +58,7 @@ def connection(inner, tell):
         return f"Connection ({plain(inner, tell)})"
     form = BUFFER.fullmatch(inner)
     if not form:
-        raise Misread
+        raise ValueError("none of a listing")
     code = bytes.fromhex(form[2].replace(",", ""))
     try:
         # iasl writes the size of its buffer in one or two bytes.

@@ -4,10 +4,7 @@ from collections import namedtuple
 
 from acpidis_tools import aml, running
 from acpidis_tools.asl import language, terms
-
-
-class TooDeep(Exception):
-    """A scope has more segments than this looks through."""
+from acpidis_tools.listing import NoListing
 
 
 # A block that is open: the node of its path, and what the body of a method declared so far, where it is in one
@@ -24,9 +21,6 @@ class Names:
         self.space, self.own, self.externals, self.uses, self.scopes = space, set(), {}, [], set()
         self.open = [Scope(space.root, None)]
 
-    def close(self):
-        self.open.pop()
-
     def unit(self, name, used, number):
         """An element of a field list: a unit that it declares, or a name that it uses. Answers the node of the former."""
         if used:
@@ -37,7 +31,8 @@ class Names:
         """A term with these names. Answers the node that it declares."""
         scope, node, names = self.open[-1], None, list(names)
         if names and word == "External":
-            self.external(names.pop(), number)
+            named = names.pop()
+            self.externals.setdefault(self.space.place(scope.node, named.name), []).append((named, number))
         elif names and word in aml.NAMED_LAST:
             node = self.declare(names.pop().name)
         elif names and word in aml.DECLARERS:
@@ -45,13 +40,10 @@ class Names:
         self.uses += [Use(scope, named, number) for named in names]
         if opens:
             self.open.append(self.opened(scope, word, node, names))
-            if self.open[-1].node.depth > running.MOST_SEGMENTS:
-                raise TooDeep(f"a scope of more than {running.MOST_SEGMENTS} segments is too deep for this script")
+            most = running.MOST_SEGMENTS
+            if self.open[-1].node.depth > most:
+                raise NoListing(f"line {number}: a scope of more than {most} segments is too deep for this script")
         return node
-
-    def external(self, named, number):
-        node = self.space.place(self.open[-1].node, named.name)
-        self.externals.setdefault(node, []).append((named, number))
 
     def opened(self, scope, word, node, names):
         if word == "Method":

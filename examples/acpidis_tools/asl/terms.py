@@ -22,10 +22,6 @@ BRACKET = re.compile(r'"[^"]*"|[({})]')
 DEEPEST = 600
 
 
-class Misread(Exception):
-    """The line is none of a listing."""
-
-
 def quoted(inner, tell):
     """A text of the listing, without its quotes, as one of ASL."""
     for code in ESCAPE.findall(inner):
@@ -52,7 +48,7 @@ def plain(name, tell):
 
 
 def term(text, revision, tell):
-    """A line of terms as one of ASL, and the names on it."""
+    """A line of terms as one of ASL, and the names on it. A line that is none of a listing is a ValueError."""
     if text.startswith("Method ("):
         return method(text, tell)
     if text.startswith("External ("):
@@ -69,7 +65,7 @@ def term(text, revision, tell):
 def method(text, tell):
     form = METHOD.fullmatch(text)
     if not form:
-        raise Misread
+        raise ValueError("none of a listing")
     name, count, rule, level = form.groups()
     level = f", {level}" if level != "0" else ""
     return f"Method ({plain(name, tell)}, {count}, {rule}{level}) {{", [Named(name, int(count))]
@@ -78,7 +74,7 @@ def method(text, tell):
 def external(text, tell):
     form = EXTERNAL.fullmatch(text)
     if not form:
-        raise Misread
+        raise ValueError("none of a listing")
     name, kind, count = form[1], int(form[2], 16), int(form[3])
     word = picked(language.OBJECTS, kind, "an External of the type", tell)
     if count and word != "MethodObj":
@@ -126,7 +122,7 @@ class Turner:
         is_deep = max(itertools.accumulate(steps), default=0) > DEEPEST
         found = [] if is_deep else terms_in(WORD.split(text.removesuffix(opens)))
         if len(found) != 1 or spelled(found[0]) + opens != text:
-            raise Misread
+            raise ValueError("none of a listing")
         return self.term(found[0], OUTSIDE) + opens
 
     def term(self, term, part):
@@ -146,7 +142,7 @@ class Turner:
         """The bytes of a Buffer, or the elements of a package."""
         is_bytes = isinstance(term.braced, bytes)
         if term.word not in language.SIZED or is_bytes and term.word != "Buffer":
-            raise Misread
+            raise ValueError("none of a listing")
         for place, it in enumerate(term.braced):
             yield f"0x{it:02X}" if is_bytes else self.part(it, Part(term.word, "{", "T", place))
         size = term.argument(0)
@@ -160,7 +156,7 @@ class Turner:
         if part.mark == "(" and part.kind == "N":
             self.tell("an empty name")
         elif part.mark != "(" or part.kind != "S":
-            raise Misread
+            raise ValueError("none of a listing")
         elif part.word in language.TARGETED or (part.word, part.place) == ("CondRefOf", 0):
             self.tell(f"{part.word} without a target")
         return ""
@@ -180,7 +176,7 @@ class Turner:
             self.check(token, part)
             return language.RENAMED.get(token, token)
         if not NAME.fullmatch(token):
-            raise Misread
+            raise ValueError("none of a listing")
         if (part.word, part.place) == ("Name", 1):
             self.tell("a name as the value of a Name")
         is_call = bool(term.arguments)
