@@ -33,14 +33,6 @@ DECLARED = re.compile(
 )
 
 
-def add_externals(lines, namespace):
-    for line, scope, _ in lines:
-        form = EXTERNAL.fullmatch(line)
-        if form:
-            node = namespace.place(scope, form[1])
-            node.count = max(aml.SMALL[form[4]] if form[4] in aml.SMALL else int(form[4], 16), node.count or 0)
-
-
 def calls(text):
     """The method or scope, the name, its count, the operator and the line of each such name."""
     own, own_of = set(), None
@@ -75,9 +67,14 @@ def listing_of(asked):
     run = running.run([running.program(), *command.words_of(asked.options), "--", asked.folder])
     if run.refused:
         raise running.Refused(run.refused)
-    add_externals(run.listing.lines, run.listing.namespace)
+    namespace = run.listing.namespace
+    for line, scope, _ in run.listing.lines:
+        form = EXTERNAL.fullmatch(line)
+        if form:
+            node = namespace.place(scope, form[1])
+            node.count = max(aml.SMALL[form[4]] if form[4] in aml.SMALL else int(form[4], 16), node.count or 0)
     if "--externals" in asked.options:
-        add_given(asked.options["--externals"], run.listing.namespace)
+        add_given(asked.options["--externals"], namespace)
     return run
 
 

@@ -22,7 +22,7 @@ import re
 import sys
 import tempfile
 
-from acpidis_tools import aml, command, paths, running
+from acpidis_tools import aml, command, running
 from acpidis_tools.errors import name_in
 
 COUNTS = range(8)
@@ -83,13 +83,12 @@ class Search:
         self.counts = {}
         self.waiting = {}  # the bodies that wait for each name
         self.rounds = []
-        self.runs, self.progress = 0, command.Progress("run")
+        self.progress = command.Progress("run")
         self.outside = set()  # the segments outside the methods
 
     def run(self, counts, more=()):
-        self.runs += 1
         self.progress.step()
-        if self.runs > MOST_RUNS:
+        if self.progress.done > MOST_RUNS:
             raise running.Unusable(
                 f"more than {MOST_RUNS} runs are wanted: the {len(self.counts)} names that are met so far stand in the same"
                 " bodies; give what you know by --externals"
@@ -141,11 +140,15 @@ class Search:
 
     def apart(self, names):
         """The names in groups, none of which has two that a body has both of."""
-        bodies_with = bodies_by_segment(self.waiting)
+        # The numbers of the waiting bodies by each segment that may stand in them, at whatever byte
+        bodies_with = collections.defaultdict(set)
+        for body in itertools.chain.from_iterable(self.waiting.values()):
+            for segment in ANYWHERE.findall(body.raw):
+                bodies_with[segment].add(body.number)
         # Each with the bodies that have one of its names
         groups, alone = [], []
         for name in names:
-            segment = paths.parts(name)[-1]
+            segment = name[-4:]  # the last
             bodies = bodies_with[segment.encode()] | {body.number for body in self.waiting[name]}
             if not self.waiting[name] or segment in self.outside:
                 alone.append([name])  # its count may change how the tables themselves are read
@@ -185,15 +188,6 @@ class Search:
             if not changed:
                 break
         return trials
-
-
-def bodies_by_segment(waiting):
-    """The numbers of the waiting bodies by each segment that may stand in them, at whatever byte."""
-    found = collections.defaultdict(set)
-    for body in itertools.chain.from_iterable(waiting.values()):
-        for segment in ANYWHERE.findall(body.raw):
-            found[segment].add(body.number)
-    return found
 
 
 def spans(counts):

@@ -61,12 +61,6 @@ def shown_name(name):
     return "".join(chr(byte) if 0x20 <= byte <= 0x7E else f"\\x{byte:02X}" for byte in os.fsencode(name))
 
 
-def refusal_of(program, options, folder):
-    """Why the program refuses the set; None where it doesn't."""
-    *_, line = running.ended([program, *options, "--check", "--", folder], "surrogateescape")
-    return None if line is None else Refusal(line)
-
-
 def file_names(folder):
     with os.scandir(folder) as entries:
         return sorted(entry.name for entry in entries if entry.is_file(follow_symlinks=False) and entry.name != "tables.map")
@@ -148,7 +142,7 @@ def counted(count):
 
 def told(found, node):
     """Where a path is declared, in words."""
-    places = [f"{word} at {found.place(table, at)}" for table, at, word in node.places or ()]
+    places = [f"{word} at {found.place(table, at)}" for table, at, word in node.places]
     if not places and node.is_predefined:
         places = ["predefined"]
     if not places and node.external is not None:
@@ -170,20 +164,15 @@ def say_code(found, refusal):
     # The last names of the term in front, and of the one that the reader is in
     front = before or next(reversed(reader.open), None)
     uses = [use for use in reader.uses[-MOST_SHOWN:] if front is not None and use.term.at >= front.at]
-    if refusal.word == "ModuleCode":
-        yield from say_term(reader, refusal.at)
-    yield from blocks
-    if before is not None:
-        yield f"  behind {aml.text(before)}, offset {before.at}"
-    yield from say_counts(found, reader, uses)
-
-
-def say_term(reader, at):
-    term, stopped = reader.term_at(at)
+    term, stopped = reader.term_at(refusal.at) if refusal.word == "ModuleCode" else (None, None)
     if term is not None:
         yield from (f"  {line}" for line in aml.lines(term))
     if stopped is not None:
         yield f"  which this script can read to {stopped}"
+    yield from blocks
+    if before is not None:
+        yield f"  behind {aml.text(before)}, offset {before.at}"
+    yield from say_counts(found, reader, uses)
 
 
 def say_counts(found, reader, uses):
@@ -207,7 +196,7 @@ def say_counts(found, reader, uses):
 def say_duplicate(found, refusal):
     node = found.space.node(refusal.path)
     yield f"{path_of(node)} is declared"
-    for table, at, word in node.places or ():
+    for table, at, word in node.places:
         yield f"  as a {word} at {found.place(table, at)}"
     if not node.places:
         yield "  where this script can't follow"
@@ -274,15 +263,6 @@ def say_file(asked, refusal):
         yield f"  at byte {refusal.at} stands {bytes_at(data, refusal.at)}"
 
 
-def say_tables(found, refusal):
-    """What the tables have where the set is refused."""
-    try:
-        found.read_to(refusal)
-        yield from SAYERS.get(refusal.word, say_code)(found, refusal)
-    except aml.TooManySteps:
-        yield "  the scopes are too deep for this script to follow"
-
-
 def words_on(asked, refusal):
     """What is said of a refusal, and the ways on, of an SSDT and of a DSDT."""
     if refusal.word == "Short" and DUMPED.match(read_file(asked.folder, refusal.file)):
@@ -298,7 +278,12 @@ def say_all(asked, program, refusal):
     yield refusal.line
     what, ways, ways_of_dsdt = words_on(asked, refusal)
     if refusal.file is not None and (refusal.word in AT_BYTES or refusal.word in SAYERS):
-        yield from say_tables(Set(asked, program, refusal), refusal)
+        found = Set(asked, program, refusal)
+        try:
+            found.read_to(refusal)
+            yield from SAYERS.get(refusal.word, say_code)(found, refusal)
+        except aml.TooManySteps:
+            yield "  the scopes are too deep for this script to follow"
     elif refusal.file is not None:
         yield from say_file(asked, refusal)
     if refusal.file is not None and read_file(asked.folder, refusal.file).startswith(b"DSDT"):
@@ -316,12 +301,13 @@ def say_all(asked, program, refusal):
 def say(asked):
     """The lines to print, and the status."""
     program = running.program()
-    refusal = refusal_of(program, command.words_of(asked.options), asked.folder)
-    if refusal is None:
+    words = [program, *command.words_of(asked.options), "--check", "--", asked.folder]
+    *_, line = running.ended(words, "surrogateescape")
+    if line is None:
         return ["the set isn't refused"], 0
     asked.any_run, asked.externals = "--any-run" in asked.options, asked.options.get("--externals")
     asked.has_any_run = "--any-run" in command.known()
-    return list(say_all(asked, program, refusal)), 1
+    return list(say_all(asked, program, Refusal(line))), 1
 
 
 def main():

@@ -17,15 +17,12 @@ import sys
 from collections import namedtuple
 
 from acpidis_tools import aml, command
+from acpidis_tools.running import Refused
 
 HEADER, SUM, OEM_REVISION = aml.HEADER, 9, 24
 # The terms with a scope of their own, so that names inside mean the same wherever they stand.
 SCOPED = aml.OPENERS | {"Method"}
 ARCHIVE = "kernel/firmware/acpi"
-
-
-class Refused(Exception):
-    """Why there is no patched table."""
 
 
 # Where a path is declared: the term's word, its first byte, the byte behind its name, and the one

@@ -21,6 +21,7 @@ import tempfile
 from collections import Counter, namedtuple
 
 from acpidis_tools import command
+from acpidis_tools.running import Refused
 
 TITLE = re.compile(r"[> \t]*(RSD PTR|[A-Z0-9!_]{4}) @ 0x([0-9A-Fa-f]{1,16})\s*")
 ROW = re.compile(r"[> \t]*([0-9A-Fa-f]{4,8}): ((?:[0-9A-Fa-f]{2}(?: |$)){1,16})")
@@ -30,10 +31,6 @@ HEAD = re.compile(rb"(?=([A-Z][A-Z0-9]{3}|[A-Z0-9]{3}!).{4}[\0-\x20].[ -~\0]{6}[
 # How files begin that are packed.
 PACKED = (b"\x1f\x8b", b"BZh", b"\xfd7zXZ", b"PK\3\4", b"\x28\xb5\x2f\xfd")
 SIGNATURE = re.compile(rb"[A-Z0-9_!]{4}")
-
-
-class Refused(Exception):
-    """Why there is no folder."""
 
 
 # A table of the file: its bytes, its signature, and its address, 0 where none is known

@@ -78,7 +78,7 @@ class Node(paths.Node):
 
     def __init__(self, above, segment):
         super().__init__(above, segment)
-        self.is_predefined, self.count, self.places = False, 0, None
+        self.is_predefined, self.count, self.places = False, 0, ()
         self.external = self.given = self.target = None
 
     def is_declared(self):
@@ -128,12 +128,10 @@ class Space(paths.Tree):
         return (node.count, node) if node.is_declared() else (node.external or 0, node)
 
     def declare(self, node, table, term):
-        if node.places is None:
-            node.places = []
-            if term.word == "Method":
-                node.count = term.parts[1][1] & 7
+        if not node.places and term.word == "Method":
+            node.count = term.parts[1][1] & 7
         if len(node.places) < KEPT_PLACES:
-            node.places.append((table, term.at, term.word))
+            node.places += ((table, term.at, term.word),)
 
 
 # ---- reading

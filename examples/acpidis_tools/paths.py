@@ -1,5 +1,7 @@
 """Paths as nodes of a tree, so that a name is found without making each path at which it may stand."""
 
+from acpidis_tools.listing import path_of, path_text
+
 
 class Node:
     """A path below another one. What is below it is made where it is asked for."""
@@ -37,7 +39,7 @@ class Node:
         while node.above:
             segments.append(node.segment)
             node = node.above
-        return joined(reversed(segments))
+        return path_text(reversed(segments))
 
 
 class Tree:
@@ -49,7 +51,7 @@ class Tree:
 
     def node(self, path):
         """The node of a path of the program's text, made where it isn't there."""
-        return self.root.at(parts(path))
+        return self.root.at(path_of(path))
 
     def place(self, scope, name):
         """The node at which a name is placed, made where it isn't there."""
@@ -75,11 +77,3 @@ class Tree:
 
     def step(self):
         """A name is looked for one node further up."""
-
-
-def parts(path):
-    return path[1:].split(".") if len(path) > 1 else []
-
-
-def joined(segments):
-    return "\\" + ".".join(segments)

@@ -37,7 +37,7 @@ class Unusable(Exception):
 
 
 class Refused(Exception):
-    """The set is refused, for this reason."""
+    """The set, or what else a script is given, is refused for this reason."""
 
 
 def command():
