@@ -35,7 +35,7 @@ from concurrent.futures.process import BrokenProcessPool
 from acpidis_tools import command
 from acpidis_tools.collecting import Collector, record_rows, table_rows
 from acpidis_tools.errors import Fault, read_errors
-from acpidis_tools.listing import Listing, NoListing, file_name, read_dumps, read_listing
+from acpidis_tools.listing import Listing, NoListing, file_name, read_dumps, read_file, read_listing
 from acpidis_tools.names import Names
 from acpidis_tools.schema import COLUMNS, INDEXES, OF_CODE, SCHEMA, shifted
 
@@ -77,17 +77,13 @@ class Machine:
     def read(self) -> tuple[bytes, bytes]:
         """Its listing and its standard error."""
         text, errors = self.files
-        return read_file(text), read_file(errors) if errors else b""
+        return read(text), read(errors) if errors else b""
 
 
-def read_file(file: pathlib.Path) -> bytes:
+def read(file: pathlib.Path) -> bytes:
     if stat.S_ISFIFO(os.stat(file).st_mode) and file.parts[:2] != ("/", "dev"):
         raise NoListing("it is a pipe, which may never end")
-    with open(file, "rb") as opened:
-        data = opened.read(MOST_BYTES + 1)
-    if len(data) > MOST_BYTES:
-        raise NoListing(f"it has more than {MOST_BYTES:,} bytes")
-    return data
+    return read_file(str(file), MOST_BYTES)
 
 
 def file_of(folder: pathlib.Path, quoted: str) -> pathlib.Path | None:

@@ -23,7 +23,7 @@ from typing import TypeVar
 from acpidis_tools import command
 from acpidis_tools.comparison import compare
 from acpidis_tools.errors import read_errors
-from acpidis_tools.listing import NoListing
+from acpidis_tools.listing import NoListing, read_file
 from acpidis_tools.page.markup import page
 from acpidis_tools.page.sheet import LONG_TEXT, Sheet
 
@@ -32,19 +32,11 @@ MOST_BYTES, MOST_TO_READ = 20_000_000, 256_000_000
 Made = TypeVar("Made")
 
 
-def read(file: str, most: int) -> bytes:
-    with open(file, "rb") as opened:
-        text = opened.read(most + 1)
-    if len(text) > most:
-        way = "; --only makes one of a path or of a file alone" if most < MOST_TO_READ else ""
-        raise NoListing(f"it has more than {most:,} bytes, which are too many for one page{way}")
-    return text
-
-
 def of_file(file: str, make: Callable[[bytes], Made], most: int, what: str = "is no listing for a page") -> Made:
     """What is made of a file's text. A fault names the file that it is about."""
+    way = "; --only makes one of a path or of a file alone" if most < MOST_TO_READ else ""
     try:
-        return make(read(file, most))
+        return make(read_file(file, most, f", which are too many for one page{way}"))
     except OSError as error:
         sys.exit(f"page: cannot read {file!r}: {error.strerror}")
     except NoListing as fault:

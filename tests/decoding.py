@@ -114,8 +114,8 @@ def our_facts(listing: Listing, decoder: Decoder) -> dict[str, dict[str, list]]:
             if line.number in decoder.units:
                 unit = decoder.units[line.number]
                 facts["units"].append(f"{line.term} {unit.bit} {unit.width}")
-            ids = [text for _, text in decoder.identifiers(line)]
-            facts["EISA ids"] += [text for text in ids if EISA.fullmatch(text) and f'"{text}"' not in line.words]
+            ids = filter(EISA.fullmatch, decoder.identifiers(line))
+            facts["EISA ids"] += [text for text in ids if f'"{text}"' not in line.words]
     return found
 
 

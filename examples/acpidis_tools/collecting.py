@@ -136,7 +136,6 @@ class Collector:
                         self.method_ids[line.number] = self.add_method(block, line)
                     self.method, end = self.method_ids[line.number], line.end
                 yield line
-            self.method = None
 
     def add(self, table: str, *values: object) -> int:
         rows = self.rows[table]
@@ -313,7 +312,11 @@ class Collector:
         unit = self.decoder.units.get(line.number)
         if unit:
             _, lock, update = flag_words(self.decoder.terms(unit.head))
-            region, behind = self.region_of(unit.head)
+            # The region of the list; of an IndexField the anchor of its data, whose region it has
+            is_index = unit.head.term == "IndexField"
+            meaning = self.decoder.meanings(unit.head).get(2 if is_index else 1)
+            region = self.regions.get(meaning.anchor) if meaning and not is_index else None
+            behind = meaning.anchor if meaning and is_index else ""
             self.field_regions.setdefault(self.declared(line)[0], region)
             values = [region, unit.head.term, unit.bit, unit.width, unit.access, lock, update]
         elif line.term.startswith("Create") and line.declared is not None:
@@ -324,14 +327,6 @@ class Collector:
         self.add("field", name, self.method, path, *values, self.file, line.number)
         if behind:
             self.waiting.append((self.rows["field"][-1], behind))
-
-    def region_of(self, head: Line) -> tuple[int | None, str]:
-        """The region of a field list; of an IndexField the anchor of its data, whose region it has."""
-        is_index = head.term == "IndexField"
-        meaning = self.decoder.meanings(head).get(2 if is_index else 1)
-        if meaning is None or is_index:
-            return None, meaning.anchor if meaning else ""
-        return self.regions.get(meaning.anchor), ""
 
     # ---- what bytes and numbers mean
 
@@ -361,7 +356,7 @@ class Collector:
             )
 
     def add_identifiers(self, line: Line) -> None:
-        for _, text in self.decoder.identifiers(line):
+        for text in self.decoder.identifiers(line):
             device = self.device_of(line)
             name, number = hardware_name(line), eisa_number(text)
             self.add("identifier", device, name, text, number, DEVICE_NAMES.get(text), self.file, line.number)

@@ -125,7 +125,7 @@ def shortened(text: str) -> str:
 def compare_tables(here: list[Dump], there: list[Dump]) -> tuple[dict[str, Text | None], set[int]]:
     """For each file whose lines differ what the other listing alone has of it, None where it has no such file, and the
     numbers of the lines here that it hasn't."""
-    ours, theirs = ({dump.file: dump_lines(dump) for dump in dumps} for dumps in (here, there))
+    ours, theirs = ({it.file: [(it.number, it.text), *it.notes] for it in dumps} for dumps in (here, there))
     tables, numbers = {}, set()
     for file in sorted(ours.keys() | theirs.keys()):
         one, other = ours.get(file, []), theirs.get(file, [])
@@ -134,7 +134,3 @@ def compare_tables(here: list[Dump], there: list[Dump]) -> tuple[dict[str, Text 
             lacking = set(different_lines(other, text_of(one)))
             tables[file] = tuple(text for number, text in other if number in lacking) if other else None
     return tables, numbers
-
-
-def dump_lines(dump: Dump) -> Said:
-    return [(dump.number, dump.text), *dump.notes]

@@ -4,6 +4,7 @@ from __future__ import annotations
 
 import re
 from collections import defaultdict, namedtuple
+from collections.abc import Iterator
 
 from acpidis_tools import objects
 from acpidis_tools.listing import Line, Listing
@@ -32,9 +33,9 @@ FIELD_BITS = {
 Unit = namedtuple("Unit", "head bit width access")
 
 
-class Template(namedtuple("Template", "place descriptors patches")):
-    """A buffer of resources: the place of the word Buffer in its line, its descriptors, and for each the fields that lie in
-    its bytes, by which a run may change it."""
+class Template(namedtuple("Template", "descriptors patches")):
+    """A buffer of resources: its descriptors, and for each the fields that lie in its bytes, by which a run may change
+    it."""
 
     def texts(self) -> list[str]:
         return [
@@ -124,15 +125,11 @@ class Decoder:
             if decoded is None and line.term == "Connection":
                 decoded = descriptors(term.braced + END_TAG)
             if decoded is not None:
-                found.append(Template(term.place, decoded, self.patches_of(decoded, self.anchor_of(line, term))))
+                # The name that is declared with the buffer as its value
+                is_value = line.term == "Name" and self.argument(line, 1) is term
+                meaning = self.meanings(line).get(1) if is_value else None
+                found.append(Template(decoded, self.patches_of(decoded, meaning.anchor if meaning else "")))
         return found
-
-    def anchor_of(self, line: Line, buffer: Term) -> str:
-        """The anchor of the name that is declared with a buffer as its value."""
-        if line.term != "Name" or self.argument(line, 1) is not buffer:
-            return ""
-        meaning = self.meanings(line).get(1)
-        return meaning.anchor if meaning else ""
 
     def patches_of(self, decoded: list[Descriptor], anchor: str) -> list[list[str]]:
         """For each descriptor the names of the fields that have bits of it, in the order of the bits."""
@@ -166,22 +163,19 @@ class Decoder:
         meaning = self.meanings(line).get(1)
         return self.returned.get(meaning.anchor, "") if meaning else ""
 
-    def identifiers(self, line: Line) -> list[tuple[int, str]]:
-        """The identifiers that a line gives a device by _HID or _CID, each with the place of its word."""
+    def identifiers(self, line: Line) -> Iterator[str]:
+        """The identifiers that a line gives a device by _HID or _CID."""
         if hardware_name(line) is None:
-            return []
-        found = []
+            return
         for term in (term for term, place in places(self.terms(line)) if place.kind in "DT" and term.place >= 0):
             if term.word[0] == '"':
-                found.append((term.place, term.word[1:-1]))
+                yield term.word[1:-1]
             elif EISA_NUMBER.fullmatch(term.word) and eisa_id(term.word):
-                found.append((term.place, eisa_id(term.word)))
-        return found
+                yield eisa_id(term.word)
 
     def notes(self, line: Line) -> list[str]:
         """What to say behind a line, in a few words each."""
-        notes = [with_name(text) for _, text in self.identifiers(line)]
-        notes = [note for note in notes if f'"{note}"' not in line.words]
+        notes = [note for note in map(with_name, self.identifiers(line)) if f'"{note}"' not in line.words]
         notes += [uuid_with_name(text) for text in self.uuids(line)]
         if line.number in self.units:
             unit = self.units[line.number]

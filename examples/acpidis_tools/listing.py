@@ -5,7 +5,6 @@ from __future__ import annotations
 
 import re
 from collections import namedtuple
-from dataclasses import dataclass, field
 
 SEGMENT = r"[A-Z_][A-Z0-9_]{3}"
 NAME = rf"(?:\\|\^+)?{SEGMENT}(?:\.{SEGMENT})*(?!\w)|\\|\^+"
@@ -80,15 +79,8 @@ class Line:
         return "  " * self.depth + "".join(self.pieces)
 
 
-@dataclass
-class Dump:
-    """The line of a dump, and those below it, with their numbers."""
-
-    number: int
-    text: str
-    file: str
-    signature: str
-    notes: list[tuple[int, str]] = field(default_factory=list)
+# The line of a dump, its file and its signature, and the lines below it, with their numbers
+Dump = namedtuple("Dump", "number text file signature notes")
 
 
 class Row(namedtuple("Row", "number path kind is_maybe times", defaults=[False, 1])):
@@ -104,15 +96,8 @@ class Row(namedtuple("Row", "number path kind is_maybe times", defaults=[False, 
 Block = namedtuple("Block", "file lines")
 
 
-@dataclass
-class Listing:
+class Listing(namedtuple("Listing", "dumps rows blocks line_count above")):
     """A listing, with how many lines it has, and how many of these stand above the line `Namespace`."""
-
-    dumps: list[Dump]
-    rows: list[Row]
-    blocks: list[Block]
-    line_count: int
-    above: int
 
     @property
     def lines(self) -> list[Line]:
@@ -138,7 +123,7 @@ class Reader:
         while not self.peek().startswith("Namespace "):
             line, form = self.peek(), DUMP.fullmatch(self.peek())
             if form:
-                dumps.append(Dump(self.at + 1, line, form[1], form[2] or ""))
+                dumps.append(Dump(self.at + 1, line, form[1], form[2] or "", []))
             elif dumps and line.startswith("  ") and line.strip():
                 dumps[-1].notes.append((self.at + 1, line))
             else:
@@ -188,6 +173,15 @@ class Reader:
             raise self.refuse()
         self.at += 1
         return Line(self.at, depth, pieces)
+
+
+def read_file(file: str, most: int, why: str = "") -> bytes:
+    """What a file has. One of more than so many bytes is no listing, which is said with more words of `why`."""
+    with open(file, "rb") as opened:
+        text = opened.read(most + 1)
+    if len(text) > most:
+        raise NoListing(f"it has more than {most:,} bytes{why}")
+    return text
 
 
 def reader_of(text: bytes) -> Reader:

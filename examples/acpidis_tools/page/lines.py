@@ -4,11 +4,12 @@ elements of the classes `note` and `say`. What a line means is said behind it, a
 from __future__ import annotations
 
 import re
+from collections.abc import Iterator
 from html import escape
 
 from acpidis_tools.errors import Fault, name_in
 from acpidis_tools.listing import Block, Line, path_text
-from acpidis_tools.names import Meaning, Names, Sort, Uses, is_name
+from acpidis_tools.names import Meaning, Sort, Uses, is_name
 from acpidis_tools.page.sheet import BETWEEN, Sheet, chunk_html, classed, counted
 
 # A browser's tree of elements ends at 512 levels.
@@ -86,27 +87,25 @@ class BlockWriter:
 
     def __init__(self, sheet: Sheet):
         self.sheet = sheet
-        self.nexts = next_notes(sheet.names, sheet)
+        self.nexts = dict(next_notes(sheet))
         self.uses: list[str] = []
         self.changed = sheet.comparison.lines if sheet.comparison else set()
 
-    def write(self, block: Block) -> list[str]:
+    def write(self, block: Block) -> Iterator[str]:
         lines = [line for line in block.lines if self.sheet.shows(line.number)]
         return self.packed(lines) if self.sheet.is_packed else self.folded(lines, DEEPEST_FOLD)
 
-    def folded(self, lines: list[Line], deepest: int) -> list[str]:
-        written, folds = [], []
-        last = lines[-1].number if lines else 0
+    def folded(self, lines: list[Line], deepest: int) -> Iterator[str]:
+        folds: list[int] = []
         for line in lines:
-            if folds_here(line) and len(folds) < deepest and line.end <= last:
+            if folds_here(line) and len(folds) < deepest and line.end <= lines[-1].number:
                 folds.append(line.end)
-                written.append(self.head(line))
+                yield self.head(line)
             else:
-                written.append(self.line(line))
+                yield self.line(line)
             if folds and folds[-1] == line.number:
                 folds.pop()
-                written.append("</details>\n")
-        return written
+                yield "</details>\n"
 
     def head(self, line: Line) -> str:
         text, mark = self.content(line)
@@ -118,40 +117,38 @@ class BlockWriter:
         text, mark = self.content(line)
         return f"<p id={line.number}{classed(mark)}>{text}</p>\n"
 
-    def packed(self, lines: list[Line]) -> list[str]:
+    def packed(self, lines: list[Line]) -> Iterator[str]:
         """The lines in chunks, and between these what folds more lines than a chunk has."""
-        written: list[str] = []
         folds: list[int] = []
         chunk: list[Line] = []
         kept_to = 0
 
-        def flush() -> None:
+        def flushed() -> Iterator[str]:
             if chunk:
-                written.append(self.chunk(chunk, DEEPEST_FOLD - len(folds)))
+                yield self.chunk(chunk, DEEPEST_FOLD - len(folds))
                 chunk.clear()
 
         for line in lines:
             is_inside = line.number <= kept_to
             if not is_inside and folds and line.number == folds[-1]:
-                flush()
+                yield from flushed()
                 folds.pop()
-                written += [self.line(line), "</details>\n"]
+                yield self.line(line) + "</details>\n"
                 continue
             if not is_inside and folds_here(line):
                 if line.end - line.number >= CHUNK and len(folds) < DEEPEST_FOLD // 2:
-                    flush()
+                    yield from flushed()
                     folds.append(line.end)
-                    written.append(self.head(line))
+                    yield self.head(line)
                     self.uses += line_uses_html(line, self.sheet)
                     continue
                 kept_to = line.end if line.end - line.number < CHUNK else 0
             elif not is_inside and len(chunk) >= CHUNK:
-                flush()
+                yield from flushed()
             chunk.append(line)
             if len(chunk) >= CHUNK and line.number >= kept_to:
-                flush()
-        flush()
-        return written
+                yield from flushed()
+        yield from flushed()
 
     def chunk(self, lines: list[Line], deepest: int) -> str:
         uses = [html for line in lines for html in line_uses_html(line, self.sheet)]
@@ -186,16 +183,14 @@ class BlockWriter:
         return "".join([text, self.nexts.get(line.number, ""), *said]), mark
 
 
-def next_notes(names: Names, sheet: Sheet) -> dict[int, str]:
+def next_notes(sheet: Sheet) -> Iterator[tuple[int, str]]:
     """For each declaration of a path that is declared several times, by its line's number, the link to the next one."""
-    notes = {}
-    for lines in names.declarations.values():
+    for lines in sheet.names.declarations.values():
         if len(lines) > 1:
             for place, line in enumerate(lines, 1):
                 behind = lines[place % len(lines)].number
                 tag, to = ("a", f" href=#{behind}") if sheet.shows(behind) else ("span", "")
-                notes[line.number] = f"<{tag} class=note{to}>{place:,} of {len(lines):,}</{tag}>"
-    return notes
+                yield line.number, f"<{tag} class=note{to}>{place:,} of {len(lines):,}</{tag}>"
 
 
 def folds_here(line: Line) -> bool:
@@ -221,15 +216,13 @@ def uses_html(uses: Uses, sheet: Sheet) -> str:
     return f"<ul>{''.join(items)}</ul>"
 
 
-def line_uses_html(line: Line, sheet: Sheet) -> list[str]:
+def line_uses_html(line: Line, sheet: Sheet) -> Iterator[str]:
     """For each declaration of a line that is used, where it is."""
-    written = []
     for meaning in sheet.names.meanings[line.number]:
         uses = sheet.names.uses.get(meaning.anchor)
         if uses and meaning.sort in (Sort.DECLARES, Sort.LOCAL) and meaning.path is not None:
             head = f"<a href=#{meaning.anchor}>{path_text(meaning.path)}</a>"
-            written.append(f"<div id=u{line.number}>{head}{uses_html(uses, sheet)}</div>\n")
-    return written
+            yield f"<div id=u{line.number}>{head}{uses_html(uses, sheet)}</div>\n"
 
 
 def use_list_html(sheet: Sheet, uses: list[str]) -> list[str]:

@@ -79,7 +79,10 @@ class Sheet:
             for line in block.lines:
                 while opened and line.number > opened[-1].end:
                     opened.pop()
-                if line.number <= kept_to or is_at(line, self.names.meanings[line.number], wanted):
+                # The paths that it declares, or opens
+                sorts = [Sort.DECLARES, Sort.AGAIN] + [Sort.LEADS] * (line.term == "Scope")
+                paths = [it.path for it in self.names.meanings[line.number] if it.sort in sorts]
+                if line.number <= kept_to or any(path is not None and path[:len(wanted)] == wanted for path in paths):
                     kept_to = max(kept_to, line.end)
                     found.add(line.number)
                     found.update(number for head in opened for number in (head.number, head.end))
@@ -88,14 +91,8 @@ class Sheet:
         return found
 
 
-def is_at(line: Line, meanings: list[Meaning], wanted: Path) -> bool:
-    """Whether a line declares a path at or below the wanted one, or opens it."""
-    sorts = [Sort.DECLARES, Sort.AGAIN] + [Sort.LEADS] * (line.term == "Scope")
-    return any(it.sort in sorts and it.path is not None and it.path[:len(wanted)] == wanted for it in meanings)
-
-
-def link(path: Path, text: str = "") -> str:
-    return f"<a href=#{path_text(path)}>{text or path_text(path)}</a>"
+def link(path: Path) -> str:
+    return f"<a href=#{path_text(path)}>{path_text(path)}</a>"
 
 
 def classed(*words: str) -> str:

@@ -2,9 +2,8 @@
 
 from __future__ import annotations
 
-from collections import Counter, defaultdict
+from collections import Counter, defaultdict, namedtuple
 from collections.abc import Iterable
-from dataclasses import dataclass
 from html import escape
 
 from acpidis_tools.errors import raw_lines
@@ -18,24 +17,16 @@ DEEPEST_FOLD = 60
 MANY = 60
 
 
-@dataclass
-class Node:
-    """A path in the tree: its kind, nothing where it isn't declared, how many declared ones are below it, its marks."""
-
-    kind: str = ""
-    below: int = 0
-    marks: str = ""
-    is_maybe: bool = False
+# A path in the tree: its kind, nothing where it isn't declared, its marks, how many declared ones are below it
+Node = namedtuple("Node", "kind marks is_maybe below", defaults=["", "", False, 0])
 
 
 def nodes_of(rows: Iterable[Row], added: Iterable[Path]) -> dict[Path, Node]:
     """The declared paths and those on the way to them, each before what is below it."""
-    nodes = {row.path: Node(row.kind, marks=row.marks, is_maybe=row.is_maybe) for row in rows}
+    nodes = {row.path: Node(row.kind, row.marks, row.is_maybe) for row in rows}
     nodes |= {path: Node("added") for path in added}
-    for path in list(nodes):
-        for length in range(1, len(path)):
-            nodes.setdefault(path[:length], Node()).below += 1
-    return dict(sorted(nodes.items()))
+    below = Counter(path[:length] for path in nodes for length in range(1, len(path)))
+    return {path: nodes.get(path, Node())._replace(below=below[path]) for path in sorted(nodes.keys() | below.keys())}
 
 
 class TreeWriter:
@@ -49,8 +40,7 @@ class TreeWriter:
         self.raw = {line.method for line in raw_lines(sheet.listing)}
         self.identifiers: dict[Path, list[str]] = defaultdict(list)
         for line in sheet.listing.lines:
-            for _, text in sheet.decoder.identifiers(line):
-                self.identifiers[line.scope[:-1] if line.method else line.scope].append(text)
+            self.identifiers[line.scope[:-1] if line.method else line.scope] += sheet.decoder.identifiers(line)
 
     def write(self) -> list[str]:
         """The tree. In a packed page the parts that begin closed are packed, but for small ones."""
@@ -64,19 +54,17 @@ class TreeWriter:
                 parts[-1].append("</details>\n")
             if node is None:
                 break
+            dimmed = classed("maybe" * node.is_maybe)
             if not node.below or len(opened) >= DEEPEST_FOLD:
-                parts[-1].append(f"<p{self.dimmed(node)}>{self.node_html(path, node)}</p>\n")
+                parts[-1].append(f"<p{dimmed}>{self.node_html(path, node)}</p>\n")
                 continue
             is_packed = self.sheet.is_packed and node.below >= MANY and len(path) > 1
             state = " open" if len(path) == 1 else ""
-            parts[-1].append(f"<details{state}><summary{self.dimmed(node)}>{self.node_html(path, node)}</summary>\n")
+            parts[-1].append(f"<details{state}><summary{dimmed}>{self.node_html(path, node)}</summary>\n")
             opened.append((path, is_packed))
             if is_packed:
                 parts.append([])
         return parts[0]
-
-    def dimmed(self, node: Node) -> str:
-        return classed("maybe" if node.is_maybe else "")
 
     def node_html(self, path: Path, node: Node) -> str:
         mark = self.sheet.mark(path) or ("raw" if path in self.raw else "")
@@ -100,14 +88,12 @@ class TreeWriter:
         external = None if path in self.sheet.names.lines else self.sheet.names.externals.get(path)
         return bool(node.kind) or path in PREDEFINED or external is not None and self.sheet.shows(external.number)
 
-    def index(self) -> list[str]:
+    def index(self) -> Iterable[str]:
         """For each path that the search finds its path, its kind, the line of its declaration, and its identifiers."""
-        lines = []
         for path, node in self.nodes.items():
             if self.is_linked(path, node):
                 line = self.sheet.names.lines.get(path) or self.sheet.names.externals.get(path)
                 ids = dict.fromkeys(self.identifiers.get(path, ()))
                 words = [*ids, *(DEVICE_NAMES.get(text, "") for text in ids)]
                 number = line.number if line and self.sheet.shows(line.number) else 0
-                lines.append("\t".join([path_text(path), node.kind, str(number), " ".join(filter(None, words))]))
-        return lines
+                yield "\t".join([path_text(path), node.kind, str(number), " ".join(filter(None, words))])
