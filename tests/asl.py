@@ -45,9 +45,7 @@ SAMPLES = {"pages": PAGES_FILES, "hostile": HOSTILE_FILES, "runs": RUNS_FILES, *
 
 
 class Checks(Tally):
-    def __init__(self, stops):
-        super().__init__(stops)
-        self.same = self.told = 0
+    same = told = 0
 
     def says(self, what, words, status, said="", printed=None):
         """A script ends so, with these lines of standard error, and of standard output where these are told."""

@@ -14,7 +14,7 @@ import re
 import shlex
 import subprocess
 
-from tally import TOP, Tally, asked, executable, on_full_disk, parts_in, timed, written
+from tally import TOP, Tally, asked, executable, parts_in, timed, written
 from made_aml import SETS, device, method, table, tables
 
 
@@ -115,8 +115,7 @@ def try_damage(tries):
     (tries.room / "noted/notes.txt").write_text("DSDT @ 0x0000000000000000\n    0000: 44 53 44 54 24 00 00 00\n")
     found = tries.run("refused.py", "noted")
     tries.is_so("the text of acpidump", "Way on: `acpidis-unpack FILE FOLDER`" in found.stdout and not found.stderr)
-    said = "refused: cannot write: No space left on device\n"
-    tries.is_same("a full disk", on_full_disk("refused.py", "twice", cwd=tries.room), (2, said))
+    tries.fills_disk("refused.py", "twice", cwd=tries.room)
     tries.folder("damaged", *SETS["branch"])
     data, file = table(b"DSDT", SETS["branch"][0] + b"\x5b\x80REG0\0"), tries.room / "damaged/dsdt.dat"
     for at, byte in itertools.product(range(36, 86, 7), (0x00, 0x5B, 0xFF)):

@@ -19,14 +19,15 @@ import pathlib
 import sqlite3
 import subprocess
 import sys
+from collections.abc import Iterator
 
-from tally import TOP, Tally, asked, first_difference, module_of, on_full_disk, parts_in, run_script, written
+from tally import TOP, Tally, asked, first_difference, module_of, parts_in, run_script, written
 from acpidis_tools import command
 from loading import path_text
 from made_aml import SETS, VERSIONS, table, tables
 from running import REFUSED, Options, Outcome, run_folder
 from acpidis_tools.schema import COLUMNS, REFERENCES
-from telling import Teller, samples, small, teller_of
+from telling import Teller, samples, small
 
 FACTS = TOP / "examples/facts.py"
 facts_script = module_of("facts_script", FACTS)
@@ -50,13 +51,11 @@ def regions_told(teller: Teller, has_raw: bool) -> list:
     return [(*head, *map(value, numbers, meant)) for head, numbers, meant in teller.regions]
 
 
-def names_told(teller: Teller) -> set:
-    found = set()
+def names_told(teller: Teller) -> Iterator[tuple]:
     for path, kind, marks in teller.space.rows():
         times = int(" ".join(marks).partition("Times ")[2] or 1)
         count = kind[1] if kind[0] == "Method" else None
-        found.add((path_text(path), kind[0], count, "maybe" if "Maybe" in marks else "always", times))
-    return found
+        yield path_text(path), kind[0], count, "maybe" if "Maybe" in marks else "always", times
 
 
 class Read:
@@ -82,9 +81,9 @@ def check_set(checks: Tally, what: str, folder: pathlib.Path, options: Options, 
     checks.is_same(f"{what} is taken", outcome.status != REFUSED, True)
     fault, rows = facts_script.facts_of(outcome.out.encode(), outcome.err.encode())
     checks.is_same(f"the facts of {what}", fault, "")
-    read, teller = Read(rows), teller_of(folder, options)
+    read, teller = Read(rows), Teller(folder, options)
     names = {row for row in read.told("name", "path kind arguments stands times") if row[3] in ("always", "maybe")}
-    checks.is_same(f"the names of {what}", sorted(names ^ names_told(teller), key=str), [])
+    checks.is_same(f"the names of {what}", sorted(names.symmetric_difference(names_told(teller)), key=str), [])
     uses = read.told("use", "method scope text name is_local place how")
     checks.is_same(f"the uses of {what}", first_difference(uses, teller.uses), None)
     raw = outcome.err.count("\n")
@@ -212,14 +211,12 @@ def check_questions(checks: Tally, room: pathlib.Path) -> None:
         checks.is_same(name, found, wanted)
 
 
-def columns_text() -> list:
+def columns_text() -> Iterator[str]:
     """The tables with their columns, and behind those that name a row the table that it is of."""
-    lines = []
     for table, columns in COLUMNS.items():
         targets = dict(REFERENCES[table])
         shown = (column + (f" > {targets[place]}" if place in targets else "") for place, column in enumerate(columns))
-        lines.append(f"{table:<12}{', '.join(shown)}")
-    return lines
+        yield f"{table:<12}{', '.join(shown)}"
 
 
 def check_words(checks: Tally, room: pathlib.Path) -> None:
@@ -236,10 +233,9 @@ def check_words(checks: Tally, room: pathlib.Path) -> None:
     found = run(room / "listed/none", room / "none")
     said = f"facts: no listing is in {str(room / 'listed/none')!r}: a file `text` is one, in a folder of each machine\n"
     checks.is_same("a folder without a listing", (found.returncode, found.stderr), (1, said))
-    said = "facts: cannot write: No space left on device\n"
-    checks.is_same("a full disk", on_full_disk("facts.py", "--json", text), (2, said))
+    checks.fills_disk("facts.py", "--json", text)
     lines = [line for line in (TOP / "docs/facts.md").read_text().splitlines() if line.partition(" ")[0] in COLUMNS]
-    checks.is_same("the columns of docs/facts.md", lines, columns_text())
+    checks.is_same("the columns of docs/facts.md", lines, list(columns_text()))
 
 
 def main() -> None:

@@ -17,7 +17,7 @@ import resource
 import subprocess
 from collections.abc import Iterator
 
-from tally import TOP, Tally, asked, executable, module_of, on_full_disk, parts_in, run_script, timed, written
+from tally import TOP, Tally, asked, executable, module_of, parts_in, run_script, timed, written
 from acpidis_tools.errors import read_errors
 from acpidis_tools.listing import NoListing
 from acpidis_tools.page.markup import page
@@ -40,12 +40,6 @@ def text_of(rows: list, lines: list, file: str = "d", revision: int = 2) -> str:
     shown, inside = ("".join(f"  {it}\n" for it in some) for some in (rows, lines))
     block = f'DefinitionBlock ("{file}") {{\n{inside}}}\n'
     return f"{head_of(file, 'DSDT', revision)}Namespace {len(rows)}\n{shown}{block}"
-
-
-def body(*lines: str, path: str = "\\AAAA", rows: tuple = ()) -> str:
-    """The text of a method with these lines."""
-    head, inside = f"Method ({path}, 0, NotSerialized, 0) {{", [f"  {line}" for line in lines]
-    return text_of([*rows, f"{path} Method 0"], [head, *inside, "}"])
 
 
 def repeated(form: re.Match) -> str:
@@ -104,7 +98,8 @@ def check_texts(checks: Tally, room: pathlib.Path) -> None:
 def check_outputs(checks: Tally, room: pathlib.Path) -> None:
     """Files of errors that are others, and outputs that take nothing."""
     text, errors = room / "text", room / "errors"
-    text.write_text(body("Raw {A4, 5A, 5A, 5A, 5A}"))
+    body = ["Method (\\AAAA, 0, NotSerialized, 0) {", "  Raw {A4, 5A, 5A, 5A, 5A}", "}"]
+    text.write_text(text_of(["\\AAAA Method 0"], body))
     lines = {
         "of another set": "acpidis: body \\BBBB: UnknownName at 0\n", "of another tool": "a line\n" * 9, "empty": "",
         "twice": "acpidis: body \\AAAA: UnknownName at 1\n" * 2, "changed": "acpidis: body \\AAAA: \n",
@@ -117,9 +112,8 @@ def check_outputs(checks: Tally, room: pathlib.Path) -> None:
             is_named = "errors" in said or script == "facts.py"
             wanted = (0,) if not said_there and script == "facts.py" else (1,)
             checks.is_so(f"{script}, errors {what}: {status}, {said}", status in wanted and (status == 0 or is_named))
-    for script, *words in (("page.py", text), ("facts.py", "--json", text)):
-        said = f"{script.removesuffix('.py')}: cannot write: No space left on device\n"
-        checks.is_same(f"{script}, a full disk", on_full_disk(script, *words), (2, said))
+    checks.fills_disk("page.py", text)
+    checks.fills_disk("facts.py", "--json", text)
 
 
 def mutated(lines: list, dice: random.Random) -> str:

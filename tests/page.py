@@ -26,7 +26,7 @@ from acpidis_tools.page.markup import page
 from page_html import Read, read_page
 from running import REFUSED, Options, Outcome, run_folder
 from acpidis_tools.page.sheet import Sheet
-from telling import HOSTILE_FILES, PAGES_FILES, samples, teller_of
+from telling import HOSTILE_FILES, PAGES_FILES, Teller, samples
 
 ELEMENTS = set(
     "html head meta title style body nav header h1 h2 h3 p input div span small details summary a main section ul li "
@@ -52,7 +52,7 @@ class Checks(Tally):
         """Checks the page of a set."""
         self.is_same(f"{what} is taken", outcome.status != REFUSED, True)
         read = read_page(self.page(outcome))
-        self.is_same(f"the names of {what}", first_difference(read.told(), teller_of(folder, options).told), None)
+        self.is_same(f"the names of {what}", first_difference(read.told(), Teller(folder, options).told), None)
         self.is_same(f"the uses of {what}", read.uses, read.wanted_uses())
         self.check_frame(what, read, outcome)
         self.check_packed(what, read, outcome)

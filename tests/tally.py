@@ -62,9 +62,16 @@ class Tally:
         """Runs a script of examples/ in the room."""
         return run_script(script, *words, **{"cwd": self.room, **more})
 
-    def text(self, name: str, text: str, encoding: str = "utf-8") -> pathlib.Path:
+    def fills_disk(self, script: str, *words: object, **more: object) -> None:
+        """Whether a script says so whose standard output takes nothing, and ends with status 2."""
+        with open("/dev/full", "wb") as full:
+            run = run_script(script, *words, stdout=full, **more)
+        said = f"{script.removesuffix('.py')}: cannot write: No space left on device\n"
+        self.is_same(f"{script}, a full disk", (run.returncode, run.stderr), (2, said))
+
+    def text(self, name: str, text: str) -> pathlib.Path:
         """A file of the room with this text."""
-        (self.room / name).write_text(text, encoding)
+        (self.room / name).write_text(text, "utf-8")
         return self.room / name
 
 
@@ -115,13 +122,6 @@ def timed(run: Callable, *words: object, most: float = math.inf, **more: object)
         if least < most:
             break
     return done, least
-
-
-def on_full_disk(name: str, *words: object, **more: object) -> tuple[int, str]:
-    """The status of a script whose standard output takes nothing, and what it says of that."""
-    with open("/dev/full", "wb") as full:
-        run = run_script(name, *words, stdout=full, **more)
-    return run.returncode, run.stderr
 
 
 def shim_in(room: pathlib.Path) -> pathlib.Path | None:

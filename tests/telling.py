@@ -131,18 +131,14 @@ def may_mean(space: RunNamespace, scope: Path, name: Name, own: dict) -> list[Pa
     return found or [path for path in name.candidates(scope) if path in space.externals][:1]
 
 
-def teller_of(folder: pathlib.Path, options: Options) -> "Teller":
-    """Tells of the dumps of a folder."""
-    dumps = read_folder(folder)
-    return Teller([aml_of(dumps[index].data) for index in order_of(dumps, options.any_sum)], options)
-
-
 class Teller:
     """Tells the names of a set's definition blocks in the order of the text, and what each is. `uses` has of each that uses
     something the body, the scope, what it means, whether that is the body's own, the place of this among what else it may
     mean, and what becomes of it; then come regions, with what their numbers may mean, units, and the values of Names."""
 
-    def __init__(self, codes: list[bytes], options: Options):
+    def __init__(self, folder: pathlib.Path, options: Options):
+        dumps = read_folder(folder)
+        codes = [aml_of(dumps[index].data) for index in order_of(dumps, options.any_sum)]
         self.told: list[Told] = []
         self.uses, self.regions, self.units, self.values, self.body = [], [], [], {}, None
         self.space = Watched(options.any_run)
