@@ -1,5 +1,5 @@
 //! Numbers at an offset of a table, and the sum of its bytes.
-#![tactic(auto, using(crate::proofs::Numbers::numbers), unfolding(crate::specs::Bytes::number_at, crate::specs::Bytes::begins_with))]
+#![tactic(auto, using(crate::proofs::Numbers::numbers), unfolding(crate::specs::Bytes::number_at))]
 
 ghost use Rattle.std.specs.Prelude.{◌≡◌, ◌↔◌, ◌+◌, ◌<◌, ◌≤◌, length, IsTrue};
 ghost use Rattle.acpi_tables.specs.Bytes.{little_endian, bytes_at, number_at, begins_with, checksum, HasLength};
@@ -66,6 +66,7 @@ pub fn u8_at(bytes: &[u8], at: usize) -> u8
 }
 
 /// Whether the bytes begin with this word, as a signature.
+#[tactic(auto, unfolding(crate::specs::Bytes::begins_with))]
 pub fn begins_with(bytes: &[u8], word: &[u8]) -> bool
     ensures { result ≡ begins_with bytes.now word.now }
 {

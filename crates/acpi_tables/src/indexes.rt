@@ -1,5 +1,5 @@
 //! Dumps of a set by their indexes.
-#![tactic(auto, using(crate::proofs::Places::parts), unfolding(crate::specs::Order::bytes_of, crate::specs::Order::name_of))]
+#![tactic(auto, using(crate::proofs::Places::parts))]
 
 ghost use Rattle.std.specs.Prelude.{◌≡◌};
 ghost use Rattle.acpi_tables.specs.Order.{bytes_of, name_of, has_signature, dump_at};
@@ -8,6 +8,7 @@ use crate::bytes::begins_with;
 use crate::dump::Dump;
 
 /// The bytes of the dump at this index, and none past the last.
+#[tactic(auto, using(crate::proofs::Places::parts), unfolding(crate::specs::Order::bytes_of))]
 pub fn bytes_of(dumps: &[Dump], index: usize) -> &[u8]
     ensures { result.now ≡ bytes_of dumps.now index }
 {
@@ -18,6 +19,7 @@ pub fn bytes_of(dumps: &[Dump], index: usize) -> &[u8]
 }
 
 /// The name of the dump at this index, and an empty one past the last.
+#[tactic(auto, using(crate::proofs::Places::parts), unfolding(crate::specs::Order::name_of))]
 pub fn name_of(dumps: &[Dump], index: usize) -> &[u8]
     ensures { result.now ≡ name_of dumps.now index }
 {

@@ -1,4 +1,6 @@
 //! What a refusal leads to: the second line that it gets where standard error is a terminal.
+ghost use Rattle.std.specs.Prelude.{◌≡◌, true};
+
 use acpi_folder::Quoted;
 use std::io::ErrorKind;
 use std::{fmt, fs, str};
@@ -48,7 +50,10 @@ impl<'a> fmt::Display for WayOn<'a> {
 }
 
 /// The way on from a refusal, by its line, for who named this folder.
-pub fn way_on<'a>(rt: &HostRuntime, said: &[u8], folder: &'a str, any_run: bool) -> WayOn<'a> {
+pub fn way_on<'a>(rt: &HostRuntime, said: &[u8], folder: &'a str, any_run: bool) -> WayOn<'a>
+    // The option isn't the way on of who gave it.
+    ensures { any_run ≡ true → ¬ (result ≡ WayOn.AnyRun) }
+{
     let Ok(said) = str::from_utf8(said) else {
         return WayOn::Refused;
     };

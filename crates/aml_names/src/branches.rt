@@ -153,7 +153,8 @@ fn goes_on<S: Stand>(scope: &S, depth: usize, seg: Seg) -> bool
 fn branch_of<'s, S: Stand>(scope: &S, front: usize, segs: &'s [Seg]) -> Branch<'s>
     requires { front ≤ length (S.path scope.now) }
     ensures branch { IsBranch (S.path scope.now) (result.depth, result.tail.now) }
-    ensures whole { whole (S.path scope.now) (result.depth, result.tail.now) ≡ take front (S.path scope.now) ++ segs.now }
+    ensures whole { whole (S.path scope.now) (result.depth, result.tail.now)
+        ≡ take front (S.path scope.now) ++ segs.now }
 {
     let mut depth = front;
     for seg in segs {

@@ -83,8 +83,10 @@ fn tell_at<A: Arity, S: Sink>(
     sink: &mut S,
 ) -> Result<Behind, CodeFault>
     requires { (at ≤ end) × (end ≤ length code.now) }
-    ensures told { IfOk result (λ x. (t : Tree) × ((step_at (A.arity arity.now) here.levels here.position code.now at end
-        ≡ Ok (t, x.at)) × ((x.position ≡ next_position here.position t) × S.grew sink.old sink.new (pieces here.level t)))) }
+    ensures told { IfOk result (λ x. (t : Tree)
+        × ((step_at (A.arity arity.now) here.levels here.position code.now at end
+        ≡ Ok (t, x.at)) × ((x.position ≡ next_position here.position t)
+        × S.grew sink.old sink.new (pieces here.level t)))) }
     ensures fails { IfErr result (λ fault. Fails fault
         (step_at (A.arity arity.now) here.levels here.position code.now at end)) }
     // The code is of bytes, which a `StepAt` does not say.

@@ -150,9 +150,11 @@ impl<'a, N: Names> Parser<'a, N> {
         requires { N.fits self.now.names.now locals.old }
         ensures told { IfOk result (λ x. Tells S.grew (pieces here.level) (λ t. x.0 ≡ has_opcode 0xA0 t) sink.old
             sink.new (N.paths self.now.names.now locals.new) x.1.now
-            (read_by N.arity N.scope self.now here.levels here.position end (N.paths self.now.names.now locals.old) bytes.now)) }
+            (read_by N.arity N.scope self.now here.levels here.position end
+            (N.paths self.now.names.now locals.old) bytes.now)) }
         ensures fails { IfErr result (λ e. Fails e
-            (read_by N.arity N.scope self.now here.levels here.position end (N.paths self.now.names.now locals.old) bytes.now)) }
+            (read_by N.arity N.scope self.now here.levels here.position end
+            (N.paths self.now.names.now locals.old) bytes.now)) }
         ensures fits { N.fits self.now.names.now locals.new }
     {
         let (lead, rest) = byte_of(end, bytes)?;
@@ -205,9 +207,11 @@ impl<'a, N: Names> Parser<'a, N> {
         requires { N.fits self.now.names.now locals.old }
         ensures told { IfOk result (λ x. Tells S.grew (pieces here.level) (λ t. x.0 ≡ has_opcode 0xA0 t) sink.old
             sink.new (N.paths self.now.names.now locals.new) x.1.now (call_at (N.arity self.now.names.now)
-            (read_by N.arity N.scope self.now here.levels) here.position end (N.paths self.now.names.now locals.old) bytes.now)) }
+            (read_by N.arity N.scope self.now here.levels) here.position end
+            (N.paths self.now.names.now locals.old) bytes.now)) }
         ensures fails { IfErr result (λ e. Fails e (call_at (N.arity self.now.names.now)
-            (read_by N.arity N.scope self.now here.levels) here.position end (N.paths self.now.names.now locals.old) bytes.now)) }
+            (read_by N.arity N.scope self.now here.levels) here.position end
+            (N.paths self.now.names.now locals.old) bytes.now)) }
         ensures fits { N.fits self.now.names.now locals.new }
     {
         let (name, rest) = name_of(self.alloc, end, bytes)?;
@@ -241,9 +245,11 @@ impl<'a, N: Names> Parser<'a, N> {
         requires argument { here.position ≡ Position.Argument }
         ensures told { IfOk result (λ rest. Tells S.grew (items here.level) (λ ts. tree_count ts ≡ count)
             sink.old sink.new (N.paths self.now.names.now locals.new) rest.now
-            (arguments_at (read_by N.arity N.scope self.now here.levels) count end (N.paths self.now.names.now locals.old) bytes.now)) }
+            (arguments_at (read_by N.arity N.scope self.now here.levels) count end
+            (N.paths self.now.names.now locals.old) bytes.now)) }
         ensures fails { IfErr result (λ e. Fails e
-            (arguments_at (read_by N.arity N.scope self.now here.levels) count end (N.paths self.now.names.now locals.old) bytes.now)) }
+            (arguments_at (read_by N.arity N.scope self.now here.levels) count end
+            (N.paths self.now.names.now locals.old) bytes.now)) }
         ensures fits { N.fits self.now.names.now locals.new }
     {
         if count == 0 {
@@ -267,9 +273,11 @@ impl<'a, N: Names> Parser<'a, N> {
         requires argument { here.position ≡ Position.Argument }
         ensures told { IfOk result (λ rest. Tells S.grew (items here.level) (λ ts. tree_count ts ≡ count)
             sink.old sink.new (N.paths self.now.names.now locals.new) rest.now
-            (arguments_at (read_by N.arity N.scope self.now here.levels) count end (N.paths self.now.names.now locals.old) bytes.now)) }
+            (arguments_at (read_by N.arity N.scope self.now here.levels) count end
+            (N.paths self.now.names.now locals.old) bytes.now)) }
         ensures fails { IfErr result (λ e. Fails e
-            (arguments_at (read_by N.arity N.scope self.now here.levels) count end (N.paths self.now.names.now locals.old) bytes.now)) }
+            (arguments_at (read_by N.arity N.scope self.now here.levels) count end
+            (N.paths self.now.names.now locals.old) bytes.now)) }
         ensures fits { N.fits self.now.names.now locals.new }
     {
         let mut is_first = true;
@@ -297,10 +305,12 @@ impl<'a, N: Names> Parser<'a, N> {
         requires fits { N.fits self.now.names.now locals.old }
         requires listed { row_of row.now.opcode ≡ Some (row_view row.now) }
         ensures told { IfOk result (λ x. Tells S.grew (pieces here.level) (λ t. x.0 ≡ has_opcode 0xA0 t) sink.old
-            sink.new (N.paths self.now.names.now locals.new) x.1.now (plain_at (N.scope self.now.names.now) (read_by N.arity N.scope self.now here.levels)
+            sink.new (N.paths self.now.names.now locals.new) x.1.now
+            (plain_at (N.scope self.now.names.now) (read_by N.arity N.scope self.now here.levels)
             (row_view row.now) end (N.paths self.now.names.now locals.old) bytes.now)) }
         ensures fails { IfErr result (λ e. Fails e (plain_at (N.scope self.now.names.now)
-            (read_by N.arity N.scope self.now here.levels) (row_view row.now) end (N.paths self.now.names.now locals.old) bytes.now)) }
+            (read_by N.arity N.scope self.now here.levels) (row_view row.now) end
+            (N.paths self.now.names.now locals.old) bytes.now)) }
         ensures fits { N.fits self.now.names.now locals.new }
     {
         sink.tell(Piece::Opcode(row, None))?;
@@ -363,9 +373,11 @@ impl<'a, N: Names> Parser<'a, N> {
         ensures told { IfOk result (λ x. Tells S.grew (parts_pieces here.level)
             (λ ps. (label_at end x.0 ≡ last_label None ps) × (part_count ps ≡ length kinds.now)) sink.old sink.new
             (N.paths self.now.names.now locals.new) x.1.now
-            (parts_at (read_by N.arity N.scope self.now here.levels) kinds.now end (N.paths self.now.names.now locals.old) bytes.now)) }
+            (parts_at (read_by N.arity N.scope self.now here.levels) kinds.now end
+            (N.paths self.now.names.now locals.old) bytes.now)) }
         ensures fails { IfErr result (λ e. Fails e
-            (parts_at (read_by N.arity N.scope self.now here.levels) kinds.now end (N.paths self.now.names.now locals.old) bytes.now)) }
+            (parts_at (read_by N.arity N.scope self.now here.levels) kinds.now end
+            (N.paths self.now.names.now locals.old) bytes.now)) }
         ensures fits { N.fits self.now.names.now locals.new }
     {
         let mut label = None;
@@ -396,9 +408,11 @@ impl<'a, N: Names> Parser<'a, N> {
         ensures told { IfOk result (λ rest. Tells S.grew (part_pieces here.level)
             (λ p. label_at end label.new ≡ last_label (label_at end label.old) (part_more p no_parts)) sink.old sink.new
             (N.paths self.now.names.now locals.new) rest.now
-            (part_at (read_by N.arity N.scope self.now here.levels) kind end (N.paths self.now.names.now locals.old) bytes.now)) }
+            (part_at (read_by N.arity N.scope self.now here.levels) kind end
+            (N.paths self.now.names.now locals.old) bytes.now)) }
         ensures fails { IfErr result (λ e. Fails e
-            (part_at (read_by N.arity N.scope self.now here.levels) kind end (N.paths self.now.names.now locals.old) bytes.now)) }
+            (part_at (read_by N.arity N.scope self.now here.levels) kind end
+            (N.paths self.now.names.now locals.old) bytes.now)) }
         ensures fits { N.fits self.now.names.now locals.new }
     {
         // A result that is handed on whole goes through memory, so each is taken apart where it is read.
@@ -429,9 +443,11 @@ impl<'a, N: Names> Parser<'a, N> {
         ensures told { IfOk result (λ rest. Tells S.grew (part_pieces here.level)
             (λ p. (label : Option AnyName) → label ≡ last_label label (part_more p no_parts)) sink.old sink.new
             (N.paths self.now.names.now locals.new) rest.now (held_inside child
-            (read_by N.arity N.scope self.now here.levels here.position end (N.paths self.now.names.now locals.old) bytes.now))) }
+            (read_by N.arity N.scope self.now here.levels here.position end
+            (N.paths self.now.names.now locals.old) bytes.now))) }
         ensures fails { IfErr result (λ e. Fails e (held_inside child
-            (read_by N.arity N.scope self.now here.levels here.position end (N.paths self.now.names.now locals.old) bytes.now))) }
+            (read_by N.arity N.scope self.now here.levels here.position end
+            (N.paths self.now.names.now locals.old) bytes.now))) }
         ensures fits { N.fits self.now.names.now locals.new }
     {
         let rest = self.tell_inner(here, end, locals, sink, bytes)?;
@@ -452,9 +468,11 @@ impl<'a, N: Names> Parser<'a, N> {
         requires { N.fits self.now.names.now locals.old }
         ensures told { IfOk result (λ rest. Tells S.grew (pieces here.level) (λ t. Unit {0}) sink.old sink.new
             (N.paths self.now.names.now locals.new) rest.now
-            (read_by N.arity N.scope self.now here.levels here.position end (N.paths self.now.names.now locals.old) bytes.now)) }
+            (read_by N.arity N.scope self.now here.levels here.position end
+            (N.paths self.now.names.now locals.old) bytes.now)) }
         ensures fails { IfErr result (λ e. Fails e
-            (read_by N.arity N.scope self.now here.levels here.position end (N.paths self.now.names.now locals.old) bytes.now)) }
+            (read_by N.arity N.scope self.now here.levels here.position end
+            (N.paths self.now.names.now locals.old) bytes.now)) }
         ensures fits { N.fits self.now.names.now locals.new }
     {
         match tell_short(here, end, sink, bytes)? {
@@ -536,7 +554,8 @@ impl<'a, N: Names> Parser<'a, N> {
     ) -> Result<(), CodeFault>
         requires { N.fits self.now.names.now locals.old }
         ensures told { OnOk result (TellsAll S.grew (line_pieces here.level) (λ ts. Unit {0}) sink.old sink.new
-            (N.paths self.now.names.now locals.new) (terms_at (read_by N.arity N.scope self.now here.levels) (length bytes.now) here.position end
+            (N.paths self.now.names.now locals.new)
+            (terms_at (read_by N.arity N.scope self.now here.levels) (length bytes.now) here.position end
             (N.paths self.now.names.now locals.old) bytes.now)) }
         ensures fails { IfErr result (λ e. Fails e (terms_at (read_by N.arity N.scope self.now here.levels)
             (length bytes.now) here.position end (N.paths self.now.names.now locals.old) bytes.now)) }
@@ -574,7 +593,8 @@ impl<'a, N: Names> Parser<'a, N> {
         requires fits { N.fits self.now.names.now locals.old }
         requires data { here.position ≡ Position.Data }
         ensures told { OnOk result (TellsAll S.grew (items here.level) (λ ts. Unit {0}) sink.old sink.new
-            (N.paths self.now.names.now locals.new) (terms_at (read_by N.arity N.scope self.now here.levels) (length bytes.now) Position.Data end
+            (N.paths self.now.names.now locals.new)
+            (terms_at (read_by N.arity N.scope self.now here.levels) (length bytes.now) Position.Data end
             (N.paths self.now.names.now locals.old) bytes.now)) }
         ensures fails { IfErr result (λ e. Fails e (terms_at (read_by N.arity N.scope self.now here.levels)
             (length bytes.now) Position.Data end (N.paths self.now.names.now locals.old) bytes.now)) }
@@ -613,9 +633,11 @@ impl<'a, N: Names> Parser<'a, N> {
         requires { N.fits self.now.names.now locals.old }
         ensures told { IfOk result (λ units. TellsAll S.grew (fields_pieces here.level)
             (λ us. map plain_name units.items ≡ unit_names us) sink.old sink.new (N.paths self.now.names.now locals.new)
-            (fields_at (read_by N.arity N.scope self.now here.levels) (length bytes.now) end (N.paths self.now.names.now locals.old) bytes.now)) }
+            (fields_at (read_by N.arity N.scope self.now here.levels) (length bytes.now) end
+            (N.paths self.now.names.now locals.old) bytes.now)) }
         ensures fails { IfErr result (λ e. Fails e
-            (fields_at (read_by N.arity N.scope self.now here.levels) (length bytes.now) end (N.paths self.now.names.now locals.old) bytes.now)) }
+            (fields_at (read_by N.arity N.scope self.now here.levels) (length bytes.now) end
+            (N.paths self.now.names.now locals.old) bytes.now)) }
         ensures fits { N.fits self.now.names.now locals.new }
     {
         let mut units = Vec::new(self.alloc);
@@ -649,11 +671,14 @@ impl<'a, N: Names> Parser<'a, N> {
     ) -> Result<&'b [u8], CodeFault>
         requires { N.fits self.now.names.now locals.old }
         ensures told { IfOk result (λ rest. Tells S.grew (field_pieces here.level)
-            (λ u. map plain_name units.new.items ≡ map plain_name units.old.items ++ unit_names (field_more u no_fields))
+            (λ u. map plain_name units.new.items
+            ≡ map plain_name units.old.items ++ unit_names (field_more u no_fields))
             sink.old sink.new (N.paths self.now.names.now locals.new) rest.now
-            (field_at (read_by N.arity N.scope self.now here.levels) end (N.paths self.now.names.now locals.old) bytes.now)) }
+            (field_at (read_by N.arity N.scope self.now here.levels) end
+            (N.paths self.now.names.now locals.old) bytes.now)) }
         ensures fails { IfErr result (λ e. Fails e
-            (field_at (read_by N.arity N.scope self.now here.levels) end (N.paths self.now.names.now locals.old) bytes.now)) }
+            (field_at (read_by N.arity N.scope self.now here.levels) end
+            (N.paths self.now.names.now locals.old) bytes.now)) }
         ensures fits { N.fits self.now.names.now locals.new }
     {
         let (lead, rest) = byte_of(end, bytes)?;
@@ -684,9 +709,12 @@ impl<'a, N: Names> Parser<'a, N> {
     ) -> Result<&'b [u8], CodeFault>
         requires { N.fits self.now.names.now locals.old }
         ensures told { IfOk result (λ rest. Tells S.grew (link_pieces here.level) (λ l. Unit {0}) sink.old sink.new
-            (N.paths self.now.names.now locals.new) rest.now (link_at (read_by N.arity N.scope self.now here.levels) end (N.paths self.now.names.now locals.old) bytes.now)) }
+            (N.paths self.now.names.now locals.new) rest.now
+            (link_at (read_by N.arity N.scope self.now here.levels) end
+            (N.paths self.now.names.now locals.old) bytes.now)) }
         ensures fails { IfErr result (λ e. Fails e
-            (link_at (read_by N.arity N.scope self.now here.levels) end (N.paths self.now.names.now locals.old) bytes.now)) }
+            (link_at (read_by N.arity N.scope self.now here.levels) end
+            (N.paths self.now.names.now locals.old) bytes.now)) }
         ensures fits { N.fits self.now.names.now locals.new }
     {
         let (lead, _) = byte_of(end, bytes)?;

@@ -24,7 +24,8 @@ pub fn tell_terms<N: Names, S: Sink>(
     sink: &mut S,
 ) -> Result<(), CodeFault>
     requires { length code.now < 2 ^ 32 }
-    ensures told { OnOk result ((ts : Trees) × ((all_at (N.arity names.now) (N.scope names.now) Position.BodyTerm code.now
+    ensures told { OnOk result ((ts : Trees)
+        × ((all_at (N.arity names.now) (N.scope names.now) Position.BodyTerm code.now
         ≡ Ok ts) × S.grew sink.old sink.new (line_pieces level ts))) }
     ensures fails { IfErr result (λ fault. Fails fault
         (all_at (N.arity names.now) (N.scope names.now) Position.BodyTerm code.now)) }

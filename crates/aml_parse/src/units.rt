@@ -1,5 +1,5 @@
 //! Elements of field lists that hold no terms (ACPI 6.5, 20.2.5.2).
-#![tactic(auto, unfolding(crate::specs::Reading::access_unit, crate::specs::Reading::extended_unit, crate::specs::Reading::named_unit))]
+#![tactic(auto)]
 
 ghost use Rattle.aml_names.specs.NameReading.{Gives};
 ghost use Rattle.aml_code.specs.Tree.{target};
@@ -12,6 +12,7 @@ use aml_names::segment_of;
 use std::alloc::Global;
 
 /// A named unit: a segment and a number of bits.
+#[tactic(auto, unfolding(crate::specs::Reading::named_unit))]
 pub fn named_unit_of(end: u32, bytes: &[u8]) -> Result<(Field, &[u8]), CodeFault>
     ensures { Gives (λ x. (field_view x.0, x.1.now)) result (named_unit end bytes.now) }
 {
@@ -29,6 +30,7 @@ pub fn reserved_unit_of(end: u32, bytes: &[u8]) -> Result<(Field, &[u8]), CodeFa
 }
 
 /// Access type and attribute, behind their 01.
+#[tactic(auto, unfolding(crate::specs::Reading::access_unit))]
 pub fn access_unit_of(end: u32, bytes: &[u8]) -> Result<(Field, &[u8]), CodeFault>
     ensures { Gives (λ x. (field_view x.0, x.1.now)) result (access_unit end bytes.now) }
 {
@@ -38,6 +40,7 @@ pub fn access_unit_of(end: u32, bytes: &[u8]) -> Result<(Field, &[u8]), CodeFaul
 }
 
 /// Extended access: type, attribute and length, behind their 03.
+#[tactic(auto, unfolding(crate::specs::Reading::extended_unit))]
 pub fn extended_unit_of(end: u32, bytes: &[u8]) -> Result<(Field, &[u8]), CodeFault>
     ensures { Gives (λ x. (field_view x.0, x.1.now)) result (extended_unit end bytes.now) }
 {

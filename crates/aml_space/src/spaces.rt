@@ -125,7 +125,8 @@ impl Space {
         requires target { IsAmong (length self.old.paths) kind }
         ensures put { IfOk result (λ put. put ≡ not (declared_yet self.old (path_below self.old.paths path.now))) }
         ensures known { IfOk result (λ put.
-            Grows (cond put (with_declaration self.old (path_below self.old.paths path.now) (once (kind_in self.old.paths kind) surely)) self.old) self.new) }
+            Grows (cond put (with_declaration self.old (path_below self.old.paths path.now)
+            (once (kind_in self.old.paths kind) surely)) self.old) self.new) }
         ensures err { OnErr result (Grows self.old self.new) }
         ensures taken { IsTrue (declared_yet self.old (path_below self.old.paths path.now)) → result ≡ Ok false }
         // The same of a list of entries that it stands for.
@@ -133,7 +134,8 @@ impl Space {
             IfOk result (λ put. put ≡ not (is_some (declared_at es (path_below self.old.paths path.now)))) }
         ensures stands { (es : List Entry) (body : Option Body) → StandsFor self.old es →
             IfOk result (λ put. StandsFor self.new
-            (cond put (es ++ declares (path_below self.old.paths path.now) (kind_in self.old.paths kind) body surely ∷ []) es)) }
+            (cond put (es ++ declares (path_below self.old.paths path.now)
+            (kind_in self.old.paths kind) body surely ∷ []) es)) }
     {
         let reach = reach_below(self.nodes.as_slice(), path);
         if is_taken(self.nodes.as_slice(), reach) {
@@ -172,9 +174,11 @@ impl Space {
         sure: bool,
     ) -> Result<(), NoMemory>
         requires target { IsAmong (length self.old.paths) kind }
-        ensures ok { OnOk result (Grows (with_again self.old (path_below self.old.paths path.now) (kind_in self.old.paths kind) sure) self.new) }
+        ensures ok { OnOk result (Grows
+            (with_again self.old (path_below self.old.paths path.now) (kind_in self.old.paths kind) sure) self.new) }
         ensures stands { (es : List Entry) (body : Option Body) → StandsFor self.old es →
-            OnOk result (StandsFor self.new (es ++ declares (path_below self.old.paths path.now) (kind_in self.old.paths kind) body sure ∷ [])) }
+            OnOk result (StandsFor self.new (es
+            ++ declares (path_below self.old.paths path.now) (kind_in self.old.paths kind) body sure ∷ [])) }
         ensures err { OnErr result (Grows self.old self.new) }
     {
         let reach = reach_below(self.nodes.as_slice(), path);
@@ -429,7 +433,8 @@ impl Space {
     /// Whether a path is declared, by whatever declaration.
     pub fn is_declared(&self, path: &Below<'_>) -> bool
         ensures known { result ≡ declared_yet self.now (path_below self.now.paths path.now) }
-        ensures listed { (es : List Entry) → StandsFor self.now es → result ≡ is_some (declared_at es (path_below self.now.paths path.now)) }
+        ensures listed { (es : List Entry) → StandsFor self.now es → result
+            ≡ is_some (declared_at es (path_below self.now.paths path.now)) }
     {
         self.declared(path).is_some()
     }
@@ -437,7 +442,8 @@ impl Space {
     /// Whether a path has a kind whatever runs: by a sure declaration, or since it is predefined.
     pub fn is_sure(&self, path: &Below<'_>) -> bool
         ensures known { result ≡ (outlook_in self.now).sure (path_below self.now.paths path.now) }
-        ensures listed { (es : List Entry) → StandsFor self.now es → result ≡ sure_at es (path_below self.now.paths path.now) }
+        ensures listed { (es : List Entry) → StandsFor self.now es → result
+            ≡ sure_at es (path_below self.now.paths path.now) }
     {
         let nodes = self.nodes.as_slice();
         let node = node_below(nodes, path);
@@ -448,7 +454,8 @@ impl Space {
     /// 19.6.122).
     pub fn is_scope(&self, path: &Below<'_>) -> bool
         ensures known { result ≡ scope_in (outlook_in self.now) (path_below self.now.paths path.now) }
-        ensures listed { (es : List Entry) → StandsFor self.now es → result ≡ scope_in (outlook_of es) (path_below self.now.paths path.now) }
+        ensures listed { (es : List Entry) → StandsFor self.now es → result
+            ≡ scope_in (outlook_of es) (path_below self.now.paths path.now) }
     {
         let nodes = self.nodes.as_slice();
         let node = node_below(nodes, path);
@@ -458,7 +465,8 @@ impl Space {
     /// Whether an Alias of a path is open: one of the path's kinds is an Alias that isn't the only kind, or is open.
     pub fn is_open(&self, path: &Below<'_>) -> bool
         ensures known { result ≡ open_in (outlook_in self.now) (path_below self.now.paths path.now) }
-        ensures listed { (es : List Entry) → StandsFor self.now es → result ≡ open_in (outlook_of es) (path_below self.now.paths path.now) }
+        ensures listed { (es : List Entry) → StandsFor self.now es → result
+            ≡ open_in (outlook_of es) (path_below self.now.paths path.now) }
     {
         let nodes = self.nodes.as_slice();
         let node = node_below(nodes, path);

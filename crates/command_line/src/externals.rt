@@ -1,4 +1,8 @@
 //! The file of argument counts that the user gives.
+ghost use Rattle.std.specs.Prelude.{◌≤◌, ℕ, List, IfOk, length};
+ghost use Rattle.acpi_folder.specs.Externals.{AreGiven};
+ghost use Rattle.acpi_folder.specs.Map.{lines_of};
+
 use acpi_folder::{ExternalsFault, Quoted, parse_externals};
 use aml_names::{ArgumentCount, Path};
 use std::alloc::AllocError;
@@ -45,13 +49,19 @@ impl<'a> From<ExternalsFault> for FileFault<'a> {
 pub fn read_externals<'a>(
     rt: &HostRuntime,
     file: &'a str,
-) -> Result<Vec<(Path, ArgumentCount)>, FileFault<'a>> {
+) -> Result<Vec<(Path, ArgumentCount)>, FileFault<'a>>
+    // They are those of a text, which isn't too long.
+    ensures { IfOk result (λ given. (text : List ℕ) × (length text ≤ 16777216)
+        × AreGiven (lines_of text) given.items) }
+{
     let text = read_text(rt, file)?;
     Ok(parse_externals(rt.alloc(), &text)?)
 }
 
 /// The bytes of a file that isn't too long.
-fn read_text<'a>(rt: &HostRuntime, file: &'a str) -> Result<Vec<u8>, FileFault<'a>> {
+fn read_text<'a>(rt: &HostRuntime, file: &'a str) -> Result<Vec<u8>, FileFault<'a>>
+    ensures { IfOk result (λ text. length text.items ≤ 16777216) }
+{
     match read_file(rt, file) {
         Ok(text) if text.len() <= MAX_BYTES => Ok(text),
         Err(error) if error.kind() == io::ErrorKind::OutOfMemory => Err(FileFault::NoMemory),

@@ -1,5 +1,5 @@
 //! The command line.
-ghost use Rattle.std.specs.Prelude.{◌≤◌};
+ghost use Rattle.std.specs.Prelude.{◌≤◌, IfOk};
 
 use clap::error::ErrorKind;
 use clap::{Arg, ArgAction, Command, Error, value_parser};
@@ -53,7 +53,9 @@ pub enum Stop {
 }
 
 /// Reads the command line, and prints the text of a request for help or the version, or of a fault.
-pub fn read(rt: &HostRuntime, version: &str) -> Result<CommandLine, Stop> {
+pub fn read(rt: &HostRuntime, version: &str) -> Result<CommandLine, Stop>
+    ensures { IfOk result (λ line. (1 ≤ line.workers) × (line.workers ≤ 64)) }
+{
     let alloc = rt.alloc();
     let words = match env::args(rt) {
         Ok(words) => words,
