@@ -1,23 +1,26 @@
 -- A term whose code may run, of which its pieces were heard: what is known of it then.
-use Rattle.std.proofs.Common.{◌≡◌, ℕ, [], ◌∷◌, cond, Option, None, option_map, unwrap_or, length, ◌<◌, sym, ap, subst, ◌∙◌}
+use Rattle.std.proofs.Common.{◌≡◌, ℕ, [], ◌∷◌, cond, Option, None, Some, option_map, refl, unwrap_or, length, ◌<◌, sym, ap, subst, ◌∙◌}
 use Rattle.aml_code.specs.Pieces.{pieces}
 use Rattle.aml_code.specs.Tree.{Tree}
 use Rattle.aml_namespace.specs.Known.{Known}
 use Rattle.aml_load.specs.Declaring.{Listed, term_uses}
 use Rattle.aml_load.specs.Front.{HasBegunAt, IsHeard, head_enters}
 use Rattle.aml_load.specs.Groups.{AreKnown, uses_of}
-use Rattle.aml_load.specs.Hearing.{Head, Heard, catch_all, is_block, run, with_more}
+use Rattle.aml_load.specs.Hearing.{Head, Heard, catch_all, head_at, is_block, run, with_more}
 use Rattle.aml_load.specs.HearingViews.{AreNumbered, Goes, IsNumbered, IsHeadNumbered, head_view, heard_in, stack_view}
 use Rattle.std.specs.List.{AllByRecursion}
+use Rattle.std.specs.Option.{option_copied}
 use Rattle.aml_load.specs.Loading.{Where}
 use Rattle.aml_load.specs.Opening.{tail_of}
 use Rattle.aml_load.specs.Runner.{span_inside}
 use Rattle.aml_load.specs.Running.{asked}
 use Rattle.aml_load.specs.Walking.{at_site}
 use Rattle.aml_load.specs.declared.ears.Ears.{Ears}
+use Rattle.aml_load.specs.declared.ears.Head.{Head as KeptHead}
 use Rattle.aml_load.specs.declared.opening.Opened.{Opened}
 use Rattle.aml_load.specs.declared.uses.Site.{Site}
-use Rattle.aml_load.proofs.HearingLaws.{head_at, run_caught, run_enters, run_inside}
+use denote.Ref.{Bor}
+use Rattle.aml_load.proofs.HearingLaws.{run_caught, run_enters, run_inside}
 
 pub begun_numbered : (k : Known) (e : Ears) (s : Site) → HasBegunAt e s → s.scope < length k.paths → AreNumbered k e
 begun_numbered k e s begun within = record {
@@ -25,6 +28,11 @@ begun_numbered k e s begun within = record {
   around = subst (AllByRecursion (IsNumbered k)) (sym begun.1.0) (within, tt);
   uses = subst (AreKnown k) (sym begun.1.1) tt;
 }
+
+-- a head that was lent
+pub views : (k : Known) (head : Option (Bor KeptHead)) → option_map (λ h. head_view k h.now) head ≡ option_map (head_view k) (option_copied head)
+views k None = refl
+views k (Some h) = refl
 
 abbrev nothing_listed : Listed
 nothing_listed = record { entries = []; uses = [] }

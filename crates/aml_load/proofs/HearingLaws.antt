@@ -6,7 +6,7 @@ use Rattle.std.proofs.Common.{append_assoc}
 use Rattle.aml_code.specs.Lawful.{last_label, last_byte, unit_names}
 use Rattle.aml_load.specs.Loading.{Where}
 unfoldable use Rattle.aml_load.specs.Declaring.{declare_inside, declare, declare_all, declare_as}
-use Rattle.aml_load.specs.Declaring.{first_label, byte_of, body_span, under, place_at, entry_at, lead_at}
+use Rattle.aml_load.specs.Declaring.{first_label, body_span, under, place_at, entry_at, lead_at}
 use Rattle.aml_load.specs.Declaring.{method_at, alias_at, external_at, units_at}
 use Rattle.aml_load.specs.Loading.{declares_by, kind_of, plain_entry}
 unfoldable use Rattle.aml_load.specs.Loading.{role_of}
@@ -31,7 +31,8 @@ use Rattle.aml_code.specs.Tree.{no_fields, field_more, target, buffer}
 use Rattle.aml_load.specs.declared.faults.LoadFault.{LoadFault}
 use Rattle.aml_load.specs.Declaring.{◌>>=◌, Listed, Use, use_of, uses_in, all_uses, parts_uses, part_uses, tail_uses}
 use Rattle.aml_load.specs.Declaring.{fields_uses, field_uses, kinds_in, is_argument}
-use Rattle.aml_load.specs.Hearing.{Head, Around, Heard, asks, asks_of, inside, passed, top, all_passed}
+use Rattle.aml_load.specs.Hearing.{Head, Around, Heard, asks, inside, top}
+use Rattle.aml_load.specs.Hearing.{behind_head, with_units, with_tail, head_at}
 use Rattle.aml_load.specs.Hearing.{behind_term, catch, catch_all, closed, closed_by, left, opening, with_more, named_by, opened_by, hear, hear_all}
 use Rattle.aml_load.specs.declared.ears.Shape.{Shape}
 use Rattle.aml_load.specs.declared.ears.Shape.TheVariants as shapes
@@ -46,6 +47,7 @@ use Rattle.aml_load.specs.Opening.{tail_of}
 unfoldable use Rattle.aml_load.specs.Running.{entered_at}
 use Rattle.aml_load.specs.Running.{Front, object_at, scope_at}
 use Rattle.aml_load.specs.Running as run
+use Rattle.aml_load.specs.Standing.{◌>>>◌, Standing, inside_as}
 use Rattle.aml_load.specs.Runner.{span_inside}
 use Rattle.aml_parse.specs.Running.{has_terms}
 
@@ -396,11 +398,6 @@ module _ (does : Bool) (h : Head) where
 
 -- ---- the head of a term
 
--- behind the parts of a term
-abbrev behind_head : Parts → Head → Head
-behind_head no_parts h = h
-behind_head (part_more p ps) h = behind_head ps (around.with_part p h)
-
 same_asker : (p : Part) (h : Head) → asker (around.with_part p h) ≡ asker h
 same_asker (child t) h = refl
 same_asker (label n) h = refl
@@ -516,11 +513,7 @@ head_is (part_more (dword n) ps) h = head_is ps (around.with_part (dword n) h)
 head_is (part_more (qword n) ps) h = head_is ps (around.with_part (qword n) h)
 head_is (part_more (text n) ps) h = head_is ps (around.with_part (text n) h)
 
--- the units of a field list
-abbrev with_units : Fields → Head → Head
-with_units us h = record h { units = h.units ++ unit_names us }
-
-units_more : (u : Field) (us : Fields) (h : Head) → with_units us (around.with_unit u h) ≡ with_units (field_more u us) h
+pub units_more : (u : Field) (us : Fields) (h : Head) → with_units us (around.with_unit u h) ≡ with_units (field_more u us) h
 units_more u us h = λ i. record h { units = (append_assoc h.units (unit_names (field_more u no_fields)) (unit_names us) ∙ ap (λ ns. h.units ++ ns) (by u)) i }
   where
     by : (u : Field) → unit_names (field_more u no_fields) ++ unit_names us ≡ unit_names (field_more u us)
@@ -530,7 +523,7 @@ units_more u us h = λ i. record h { units = (append_assoc h.units (unit_names (
     by (extended a b c) = refl
     by (connection x) = refl
 
-no_units : (h : Head) (ns : List Name) → ns ≡ [] → record h { units = h.units ++ ns } ≡ h
+pub no_units : (h : Head) (ns : List Name) → ns ≡ [] → record h { units = h.units ++ ns } ≡ h
 no_units h ns none = λ i. record h { units = (ap (λ ns. h.units ++ ns) none ∙ append-nil h.units) i }
 
 field_units : (does : Bool) (level : ℕ) (u : Field) (l : Listed) (h : Head) (outer : List Around)
@@ -568,16 +561,20 @@ fields_units does level (field_more u us) l h outer =
 -- ---- what a term does
 
 -- what the terms inside it declare, if they declare
-abbrev inside_of : Option Where → Tail → Listed → Result Listed LoadFault
-inside_of (Some w) t l = declare_inside w l t
-inside_of None t l = Ok l
+abbrev pub inside_of : (Listed → Where → Result Listed LoadFault) → Option Where → Listed → Result Listed LoadFault
+inside_of inside (Some w) l = inside l w
+inside_of inside None l = Ok l
 
-abbrev with_tail : Tail → Head → Head
-with_tail (fields us) h = with_units us h
-with_tail _ h = h
+-- and which terms stand there
+abbrev pub stood_inside : (Listed → Where → List Standing) → Option Where → Listed → List Standing
+stood_inside inside (Some w) l = inside l w
+stood_inside inside None l = []
+
+abbrev in_tail : Tail → Listed → Where → Result Listed LoadFault
+in_tail t l w = declare_inside w l t
 
 abbrev entered : Result (Listed × Option Where) LoadFault → Tail → Result Listed LoadFault
-entered r t = r >>= λ y. inside_of y.1 t y.0
+entered r t = r >>= λ y. inside_of (in_tail t) y.1 y.0
 
 abbrev on_again : Result Listed LoadFault → Where → List Around → Result Heard LoadFault
 on_again r w outer = r >>= λ m. Ok (heard m None (around.terms w ∷ outer))
@@ -590,7 +587,7 @@ flat_tail : (t : Tail) (r : Result (Listed × Option Where) LoadFault) (ks : Lis
 flat_tail t (Err e) ks w outer flat = refl
 flat_tail t (Ok y) ks w outer flat = by y.1
   where
-    by : (o : Option Where) → Ok (heard y.0 None (around.terms w ∷ outer)) ≡ on_again (inside_of o t y.0) w outer
+    by : (o : Option Where) → Ok (heard y.0 None (around.terms w ∷ outer)) ≡ on_again (inside_of (in_tail t) o y.0) w outer
     by None = refl
     by (Some v) = ap (λ (r : Result Listed LoadFault). on_again r w outer) (sym (flat v y.0))
 
@@ -607,53 +604,92 @@ same_entered l m h t w outer e = ap (λ (x : Listed). on_again (entered (enter h
 
 -- ---- a term by what its head does
 
-two_steps : (r : Result (List Seg) LoadFault) (e : List Seg → Result Listed LoadFault) (site : List Seg → Where) (t : Tail)
-    → entered (r >>= λ p. e p >>= λ m. Ok (m, Some (site p))) t ≡ (r >>= λ p. e p >>= λ m. declare_inside (site p) m t)
-two_steps (Err x) e site t = refl
-two_steps (Ok p) e site t = by (e p)
-  where
-    by : (r : Result Listed LoadFault) → entered (r >>= λ m. Ok (m, Some (site p))) t ≡ (r >>= λ m. declare_inside (site p) m t)
-    by (Ok m) = refl
-    by (Err x) = refl
+module _ (inside : Listed → Where → Result Listed LoadFault) where
+  abbrev then_inside : Result (Listed × Option Where) LoadFault → Result Listed LoadFault
+  then_inside r = r >>= λ y. inside_of inside y.1 y.0
 
-one_step : (r : Result (List Seg) LoadFault) (l : Listed) (site : List Seg → Where) (t : Tail)
-    → entered (r >>= λ p. Ok (l, Some (site p))) t ≡ (r >>= λ p. declare_inside (site p) l t)
-one_step (Err x) l site t = refl
-one_step (Ok p) l site t = refl
+  two_steps : (r : Result (List Seg) LoadFault) (e : List Seg → Result Listed LoadFault) (site : List Seg → Where)
+      → then_inside (r >>= λ p. e p >>= λ m. Ok (m, Some (site p))) ≡ (r >>= λ p. e p >>= λ m. inside m (site p))
+  two_steps (Err x) e site = refl
+  two_steps (Ok p) e site = by (e p)
+    where
+      by : (r : Result Listed LoadFault) → then_inside (r >>= λ m. Ok (m, Some (site p))) ≡ (r >>= λ m. inside m (site p))
+      by (Ok m) = refl
+      by (Err x) = refl
 
-no_step : (r : Result Listed LoadFault) (t : Tail) → entered (r >>= λ m. Ok (m, None)) t ≡ r
-no_step (Err x) t = refl
-no_step (Ok m) t = refl
+  one_step : (r : Result (List Seg) LoadFault) (l : Listed) (site : List Seg → Where)
+      → then_inside (r >>= λ p. Ok (l, Some (site p))) ≡ (r >>= λ p. inside l (site p))
+  one_step (Err x) l site = refl
+  one_step (Ok p) l site = refl
 
-enter_is : (role : Role) (w : Where) (declaring begun : Bool) (shape : Shape) (source : Option Name) (ps : Parts) (t : Tail) (l : Listed)
-    → source ≡ first_label ps
-    → let h : Head = record {
-      site = w;
-      declaring = declaring;
-      shape = shape;
-      role = role;
-      begun = begun;
-      source = source;
-      last = last_label None ps;
-      byte = last_byte None ps;
-      units = field_names t;
-    } in entered (enter h l (body_span t)) t ≡ declare_as role w l ps t (λ l below. declare_inside below l t)
-unfolding enter around.enter_as around.enter_kind declare_as
-enter_is (roles.Declares o) w d begun shape source ps t l e =
-    two_steps (place_at w (last_label None ps)) (λ p. entry_at w l p (plain_entry w l.entries (kind_of o) p)) (λ p. under w p) t
-enter_is roles.Scope w d begun shape source ps t l e =
-    one_step (lead_at w l.entries (last_label None ps) (λ p. faults.ScopeMissing p)) l (λ p. under w p) t
-enter_is roles.Guard w d begun shape source ps t l e = refl
-enter_is roles.Other w d begun shape source ps t l e = refl
-enter_is roles.Method w d begun shape source ps t l e = no_step (method_at w l (last_label None ps) (byte_of ps) (body_span t)) t
-enter_is roles.Alias w d begun shape source ps t l e =
-    no_step (alias_at w l source (last_label None ps)) t
-    ∙ ap (λ (n : Option Name). alias_at w l n (last_label None ps)) e
-enter_is roles.External w d begun shape source ps t l e = no_step (external_at w l (last_label None ps) (byte_of ps)) t
-enter_is roles.Fields w d begun shape source ps t l e = no_step (units_at w l (field_names t)) t
+  no_step : (r : Result Listed LoadFault) → then_inside (r >>= λ m. Ok (m, None)) ≡ r
+  no_step (Err x) = refl
+  no_step (Ok m) = refl
+
+  enter_is : (role : Role) (h : Head) (ps : Parts) (t : Tail) (l : Listed)
+      → h.source ≡ first_label ps → h.last ≡ last_label None ps → h.byte ≡ last_byte None ps → h.units ≡ field_names t
+      → then_inside (around.enter_as role h l (body_span t)) ≡ declare_as role h.site l ps t inside
+  unfolding around.enter_as around.enter_kind declare_as
+  enter_is (roles.Declares o) h ps t l source last flags units =
+      two_steps (place_at h.site h.last) (λ p. entry_at h.site l p (plain_entry h.site l.entries (kind_of o) p)) (λ p. under h.site p)
+      ∙ ap (λ n. place_at h.site n >>= λ p. entry_at h.site l p (plain_entry h.site l.entries (kind_of o) p) >>= λ m. inside m (under h.site p)) last
+  enter_is roles.Scope h ps t l source last flags units =
+      one_step (lead_at h.site l.entries h.last (λ p. faults.ScopeMissing p)) l (λ p. under h.site p)
+      ∙ ap (λ n. lead_at h.site l.entries n (λ p. faults.ScopeMissing p) >>= λ p. inside l (under h.site p)) last
+  enter_is roles.Guard h ps t l source last flags units = refl
+  enter_is roles.Other h ps t l source last flags units = refl
+  enter_is roles.Method h ps t l source last flags units =
+      no_step (method_at h.site l h.last (unwrap_or h.byte 0) (body_span t))
+      ∙ (λ i. method_at h.site l (last i) (unwrap_or (flags i) 0) (body_span t))
+  enter_is roles.Alias h ps t l source last flags units =
+      no_step (alias_at h.site l h.source h.last) ∙ (λ i. alias_at h.site l (source i) (last i))
+  enter_is roles.External h ps t l source last flags units =
+      no_step (external_at h.site l h.last (unwrap_or h.byte 0)) ∙ (λ i. external_at h.site l (last i) (unwrap_or (flags i) 0))
+  enter_is roles.Fields h ps t l source last flags units =
+      no_step (units_at h.site l h.units) ∙ (λ i. units_at h.site l (units i))
+
+-- and which terms stand inside it
+module _ (inside : Listed → Where → List Standing) where
+  abbrev then_stood : Result (Listed × Option Where) LoadFault → List Standing
+  then_stood r = r >>> λ y. stood_inside inside y.1 y.0
+
+  none_stood : (r : Result Listed LoadFault) → then_stood (r >>= λ m. Ok (m, None)) ≡ []
+  none_stood (Err x) = refl
+  none_stood (Ok m) = refl
+
+  pub enter_stood : (role : Role) (h : Head) (ps : Parts) (l : Listed) (span : ℕ × ℕ) → h.last ≡ last_label None ps
+      → then_stood (around.enter_as role h l span) ≡ inside_as role h.site l ps inside
+  unfolding around.enter_as around.enter_kind inside_as
+  enter_stood (roles.Declares o) h ps l span last = by (place_at h.site h.last)
+      ∙ ap (λ n. place_at h.site n >>> λ p. entry_at h.site l p (plain_entry h.site l.entries (kind_of o) p) >>> λ m. inside m (under h.site p)) last
+    where
+      declared : (p : List Seg) (r : Result Listed LoadFault)
+          → then_stood (r >>= λ m. Ok (m, Some (under h.site p))) ≡ (r >>> λ m. inside m (under h.site p))
+      declared p (Ok m) = refl
+      declared p (Err x) = refl
+
+      by : (r : Result (List Seg) LoadFault)
+          → then_stood (r >>= λ p. entry_at h.site l p (plain_entry h.site l.entries (kind_of o) p) >>= λ m. Ok (m, Some (under h.site p)))
+          ≡ (r >>> λ p. entry_at h.site l p (plain_entry h.site l.entries (kind_of o) p) >>> λ m. inside m (under h.site p))
+      by (Ok p) = declared p (entry_at h.site l p (plain_entry h.site l.entries (kind_of o) p))
+      by (Err x) = refl
+  enter_stood roles.Scope h ps l span last = by (lead_at h.site l.entries h.last (λ p. faults.ScopeMissing p))
+      ∙ ap (λ n. lead_at h.site l.entries n (λ p. faults.ScopeMissing p) >>> λ p. inside l (under h.site p)) last
+    where
+      by : (r : Result (List Seg) LoadFault)
+          → then_stood (r >>= λ p. Ok (l, Some (under h.site p))) ≡ (r >>> λ p. inside l (under h.site p))
+      by (Ok p) = refl
+      by (Err x) = refl
+  enter_stood roles.Guard h ps l span last = refl
+  enter_stood roles.Other h ps l span last = refl
+  enter_stood roles.Method h ps l span last = none_stood (method_at h.site l h.last (unwrap_or h.byte 0) span)
+  enter_stood roles.Alias h ps l span last = none_stood (alias_at h.site l h.source h.last)
+  enter_stood roles.External h ps l span last = none_stood (external_at h.site l h.last (unwrap_or h.byte 0))
+  enter_stood roles.Fields h ps l span last = none_stood (units_at h.site l h.units)
 
 -- the head behind its parts and its tail
-head_met : (w : Where) (row : Option Row) (ps : Parts) (t : Tail) → with_tail t (behind_head ps (around.head_of w row)) ≡ record {
+abbrev whole_head : Where → Option Row → Parts → Tail → Head
+whole_head w row ps t = record {
   site = w;
   declaring = unwrap_or (option_map (λ (r : Row). declares_by r.group) row) false;
   shape = unwrap_or (option_map (λ (r : Row). around.shape_by r.tail) row) shapes.Flat;
@@ -664,12 +700,37 @@ head_met : (w : Where) (row : Option Row) (ps : Parts) (t : Tail) → with_tail 
   byte = last_byte None ps;
   units = field_names t;
 }
+
+head_met : (w : Where) (row : Option Row) (ps : Parts) (t : Tail)
+    → with_tail t (behind_head ps (around.head_of w row)) ≡ whole_head w row ps t
 head_met w row ps empty = head_is ps (around.head_of w row)
 head_met w row ps (bytes xs) = head_is ps (around.head_of w row)
 head_met w row ps (body start len) = head_is ps (around.head_of w row)
 head_met w row ps (terms ts) = head_is ps (around.head_of w row)
 head_met w row ps (elements ts) = head_is ps (around.head_of w row)
 head_met w row ps (fields us) = ap (with_units us) (head_is ps (around.head_of w row))
+
+pub site_met : (w : Where) (row : Option Row) (ps : Parts) (t : Tail) → (with_tail t (behind_head ps (around.head_of w row))).site ≡ w
+site_met w row ps t = ap (λ (h : Head). h.site) (head_met w row ps t)
+
+-- a term of an opcode, by its head
+module _ (w : Where) (o : ℕ) (ps : Parts) (t : Tail) (l : Listed) where
+  abbrev pub by_head : Result (Listed × Option Where) LoadFault
+  by_head = enter (with_tail t (behind_head ps (around.head_of w (row_of o)))) l (body_span t)
+
+  pub enter_met : (inside : Listed → Where → Result Listed LoadFault)
+      → (by_head >>= λ y. inside_of inside y.1 y.0) ≡ declare_as (role_of o) w l ps t inside
+  unfolding enter role_of
+  enter_met inside =
+      ap (λ (h : Head). then_inside inside (enter h l (body_span t))) (head_met w (row_of o) ps t)
+      ∙ enter_is inside (role_of o) (whole_head w (row_of o) ps t) ps t l (source_is ps) refl refl refl
+
+  pub stood_met : (inside : Listed → Where → List Standing)
+      → (by_head >>> λ y. stood_inside inside y.1 y.0) ≡ inside_as (role_of o) w l ps inside
+  unfolding enter role_of
+  stood_met inside =
+      ap (λ (h : Head). then_stood inside (enter h l (body_span t))) (head_met w (row_of o) ps t)
+      ∙ enter_stood inside (role_of o) (whole_head w (row_of o) ps t) ps l (body_span t) refl
 
 asker_behind : (ps : Parts) (h : Head) → asker (behind_head ps h) ≡ asker h
 asker_behind no_parts h = refl
@@ -687,7 +748,7 @@ terms_tail level ts ks w outer (Ok y) law = by y.1
   where
     by : (o : Option Where)
         → hear_all true (line_pieces (deeper level) ts ++ end_of_list tails.Terms level ∷ []) (heard y.0 None (around.entered_by o ∷ around.head ks ∷ around.terms w ∷ outer))
-        ≡ on_again (inside_of o (terms ts) y.0) w outer
+        ≡ on_again (inside_of (in_tail (terms ts)) o y.0) w outer
     by None =
         let x = heard y.0 None (around.nowhere ∷ around.head ks ∷ around.terms w ∷ outer) in
         heard_on true (line_pieces (deeper level) ts) (end_of_list tails.Terms level ∷ []) x x
@@ -754,9 +815,7 @@ mutual
       ∙ head_tail level t (with_more l us) behind (behind_parts ps ks) w outer
       ∙ ap (λ (ask : Name → ℕ → Use). on_again (entered (enter (with_tail t behind) (with_more (with_more l us) (tail_uses ask t)) (body_span t)) t) w outer) (asker_behind ps h)
       ∙ same_entered (with_more (with_more l us) (tail_uses (asker h) t)) (with_more l all) (with_tail t behind) t w outer (more_more l us (tail_uses (asker h) t))
-      ∙ ap (λ (x : Head). on_again (entered (enter x (with_more l all) (body_span t)) t) w outer) (head_met w row ps t)
-      ∙ ap (λ (r : Result Listed LoadFault). on_again r w outer)
-      (enter_is (role_of o) w (unwrap_or (option_map (λ (r : Row). declares_by r.group) row) false) (begun_behind false ps) (unwrap_or (option_map (λ (r : Row). around.shape_by r.tail) row) shapes.Flat) (source_behind false None ps) ps t (with_more l all) (source_is ps))
+      ∙ ap (λ (r : Result Listed LoadFault). on_again r w outer) (enter_met w o ps t (with_more l all) (in_tail t))
 
   -- terms of a list
   pub lines_listed : (level : ℕ) (ts : Trees) (l : Listed) (w : Where) (outer : List Around)
@@ -827,12 +886,6 @@ run_tail level (fields us) l h ks w outer =
     (heard (with_more l (fields_uses (asker h) us)) (Some (with_units us h)) front)
     (fields_units false (deeper level) us l h (around.head ks ∷ around.run w ∷ outer))
 
--- the head of a term at a site
-abbrev pub head_at : Where → Tree → Option Head
-head_at w nothing = None
-head_at w (named n ts) = Some (around.call_at w)
-head_at w (op o width ps t) = Some (with_tail t (behind_head ps (around.head_of w (row_of o))))
-
 run_heard : (level : ℕ) (t : Tree) (l : Listed) (w : Where) (outer : List Around)
     → hear_all false (pieces level t) (heard l None (around.run w ∷ outer))
     ≡ Ok (heard (with_more l (term_uses w t)) (head_at w t) (around.run w ∷ outer))
@@ -871,7 +924,7 @@ run_caught level t l w outer =
 
 -- ---- what it does by its head
 
-tail_span : (o : ℕ) (w : Option PkgWidth) (ps : Parts) (t : Tail) → unwrap_or (tail_of (op o w ps t)) (0, 0) ≡ body_span t
+pub tail_span : (o : ℕ) (w : Option PkgWidth) (ps : Parts) (t : Tail) → unwrap_or (tail_of (op o w ps t)) (0, 0) ≡ body_span t
 tail_span o w ps (body start len) = refl
 tail_span o w ps empty = refl
 tail_span o w ps (terms ts) = refl
@@ -930,16 +983,13 @@ run_role roles.Fields h f ps t site source last flags units =
     two_more f (units_at h.site f.listed h.units)
     ∙ (λ i. units_at (site i) f.listed (units i) >>= λ m. Ok (record f { listed = m }))
 
-pub run_enters : (f : Front) (t : Tree)
-    → head_enters (head_at f.site t) (run.asked f t) (unwrap_or (tail_of t) (0, 0)) ≡ entered_at f t
-unfolding head_enters enters_by entered_at role_of
-run_enters f nothing = refl
-run_enters f (named n ts) = refl
-run_enters f (op o w ps t) =
+pub run_entered : (g : Front) (o : ℕ) (w : Option PkgWidth) (ps : Parts) (t : Tail)
+    → head_enters (head_at g.site (op o w ps t)) g (unwrap_or (tail_of (op o w ps t)) (0, 0)) ≡ run.enter_as (role_of o) g ps t
+unfolding head_enters enters_by role_of
+run_entered g o w ps t =
     let row = row_of o in
-    let g = run.asked f (op o w ps t) in
-    let met = head_met f.site row ps t in
-    let h = with_tail t (behind_head ps (around.head_of f.site row)) in
+    let met = head_met g.site row ps t in
+    let h = with_tail t (behind_head ps (around.head_of g.site row)) in
     ap (λ (s : ℕ × ℕ). enters_by h.shape h g s) (tail_span o w ps t)
     ∙ ap (λ (s : Shape). enters_by s h g (body_span t)) (ap (λ (x : Head). x.shape) met)
     ∙ shape_of_row row h g (body_span t)
@@ -953,6 +1003,13 @@ run_enters f (op o w ps t) =
     by row e h g site source last flags units =
         ap (λ (r : Option Row). enters_as (unwrap_or (option_map (λ (r : Row). r.role) r) roles.Other) h g (body_span t)) e
         ∙ run_role (role_of o) h g ps t site source last flags units
+
+pub run_enters : (f : Front) (t : Tree)
+    → head_enters (head_at f.site t) (run.asked f t) (unwrap_or (tail_of t) (0, 0)) ≡ entered_at f t
+unfolding head_enters enters_by entered_at role_of
+run_enters f nothing = refl
+run_enters f (named n ts) = refl
+run_enters f (op o w ps t) = run_entered (run.asked f (op o w ps t)) o w ps t
 
 -- ---- and whether terms stand inside it
 

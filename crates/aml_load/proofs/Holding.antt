@@ -1,25 +1,11 @@
 -- What the progress holds after one entry more.
-use Rattle.std.proofs.Common.{◌≡◌, ℕ, ◌-◌, nat_le, true, cond, List, [], ◌∷◌, ◌++◌, length, Vec, Option, Some, None}
+use Rattle.std.proofs.Common.{◌≡◌, ◌-◌, nat_le, true, cond, List, [], ◌∷◌, ◌++◌, length, Option, Some, None}
 use Rattle.std.proofs.Common.{is_some, Result, Ok, Err, refl, map}
-use Rattle.std.proofs.Common.{sym, ap, subst, ◌∙◌, inl, inr, arith, rules, Bool, false, not, ◌&&◌}
+use Rattle.std.proofs.Common.{sym, ap, subst, ◌∙◌, inl, inr, arith, Bool, false, not, ◌&&◌}
 use Rattle.std.proofs.lemmas.Bool.Decides.{nat_tests}
 use Rattle.std.proofs.lemmas.List.{append-nil, take_all}
 use Rattle.aml_names.specs.Names.{placed}
-use Rattle.std.specs.declared.alloc.Global.{Global}
-use Rattle.aml_code.specs.Lawful.{plain_name, unit_names}
-use Rattle.aml_code.specs.declared.packages.PkgWidth.{PkgWidth}
-use Rattle.aml_code.specs.declared.rows.Role.{Role}
-use Rattle.aml_code.specs.declared.tree.Node.{Node, Op, the_lemmas}
-use Rattle.aml_code.specs.declared.tree.Part.{Part}
-use Rattle.aml_code.specs.declared.tree.Tail.{Tail as CodeTail, Terms}
-use Rattle.aml_code.specs.declared.rows.Role.TheVariants as roles
-use Rattle.aml_code.specs.declared.rows.Object.{Object}
-use Rattle.aml_code.specs.Lawful.{last_label}
-use Rattle.aml_load.specs.Loading.{kind_of}
-use Rattle.aml_load.specs.Declaring.{under}
-use Rattle.aml_code.specs.Tree.{Tree, Trees, Parts, Tail, terms, tree_more, op, Field as CodeField, unit, Fields, no_fields, field_more}
-use Rattle.aml_code.specs.View.{node_view, nodes_view, parts_view, tail_view}
-use Rattle.aml_code.proofs.Views.{view-Op}
+use Rattle.aml_code.specs.Lawful.{plain_name}
 use Rattle.std.specs.Option.{ok_or}
 use Rattle.std.specs.List.{cons_option}
 use Rattle.aml_names.specs.declared.segments.Seg.{Seg}
@@ -39,9 +25,8 @@ use Rattle.aml_set.specs.Methods.{Method, method_in, methods_in, AreNumbered}
 use Rattle.aml_set.proofs.MethodLaws.{as_many, one_method, one_numbered, same_methods, still_numbered}
 use Rattle.aml_load.specs.declared.walking.Progress.{Progress}
 use Rattle.aml_load.specs.Hearing.{with_more}
-use Rattle.aml_load.specs.Declaring.{◌>>=◌, Listed, Use, plus, with_uses, place_at, entry_at, new_at, units_at}
-use Rattle.aml_load.specs.Declaring.{declare_as, declare, declare_inside, declare_all}
-use Rattle.aml_load.specs.Loading.{Where, method_of, methods_of, role_of, plain_entry}
+use Rattle.aml_load.specs.Declaring.{◌>>=◌, Listed, Use, plus, place_at, entry_at, new_at, units_at}
+use Rattle.aml_load.specs.Loading.{Where, method_of, methods_of, plain_entry}
 use Rattle.aml_load.specs.Tables.{Fails}
 use Rattle.aml_load.specs.Groups.{AreKnown, uses_of}
 use Rattle.aml_load.proofs.Grouping.{same_uses, still_known}
@@ -138,19 +123,6 @@ uses_held old new l more h s ms us known = record {
   known = subst (λ k. AreKnown k new.uses.items) (sym s) known;
 }
 
--- what an opcode declares
-pub declare_op : (site : Where) (l : Listed) (node : Node) (o : ℕ) (w : Option PkgWidth) (ps : Vec Part Global) (r : CodeTail) (role : Role)
-    → node ≡ Op o w ps r → role ≡ role_of o
-    → declare site l (node_view node)
-    ≡ declare_as role site (with_uses site l (node_view node)) (parts_view ps.items) (tail_view r) (λ l below. declare_inside below l (tail_view r))
-unfolding declare
-declare_op site l node o w ps r role e is =
-    let view : node_view node ≡ op o w (parts_view ps.items) (tail_view r) = ap node_view e ∙ view-Op o w ps r in
-    ap (declare site l) view
-    ∙ ap (λ k. declare_as k site (with_uses site l (op o w (parts_view ps.items) (tail_view r))) (parts_view ps.items) (tail_view r)
-    (λ l below. declare_inside below l (tail_view r))) (sym is)
-    ∙ ap (λ x. declare_as role site (with_uses site l x) (parts_view ps.items) (tail_view r) (λ l below. declare_inside below l (tail_view r))) (sym view)
-
 abbrev the_ok : Listed → Result Listed LoadFault
 the_ok l = Ok l
 
@@ -174,27 +146,7 @@ unit_is site l p s e =
     ∙ sym (ap (λ r. r >>= λ q. entry_at site l q (entry q)) (ap (λ o. ok_or o (loads.Space site.table faults.AboveRoot)) (field_placed site.scope s)))
     ∙ sym (ended (new_at site l (Some (plain_name s)) entry))
 
--- one element of a field list, and those behind it
-pub units_more : (site : Where) (m k : Listed) (u : CodeField) (us : Fields)
-    → units_at site m (unit_names (field_more u no_fields)) ≡ Ok k
-    → units_at site k (unit_names us) ≡ units_at site m (unit_names (field_more u us))
-unfolding units_at
-units_more site m k (unit s w n) us e =
-    let new : Result Listed LoadFault = new_at site m (Some (plain_name s)) (plain_entry site m.entries kinds.Field) in
-    sym (ap (λ (r : Result Listed LoadFault). r >>= λ j. units_at site j (unit_names us)) (sym (ended new) ∙ e))
-units_more site m k _ us e = let same : k ≡ m = cc in ap (λ j. units_at site j (unit_names us)) same
-
--- where one may not be declared, loading forward fails there
-pub units_fail : (site : Where) (m : Listed) (u : CodeField) (us : Fields) (e : LoadFault)
-    → Fails e (units_at site m (unit_names (field_more u no_fields))) → Fails e (units_at site m (unit_names (field_more u us)))
-unfolding units_at
-units_fail site m u us e (inl want) = inl want
-units_fail site m (unit s w n) us e (inr fails) =
-    let new : Result Listed LoadFault = new_at site m (Some (plain_name s)) (plain_entry site m.entries kinds.Field) in
-    inr (ap (λ (r : Result Listed LoadFault). r >>= λ j. units_at site j (unit_names us)) (sym (ended new) ∙ fails))
-units_fail site m _ us e (inr fails) = absurd cc
-
--- the same of a segment and others, at a site that is the same
+-- one segment of a field list, and those behind it, at a site that is the same
 pub segments_more : {s : Seg} (site same : Where) (m k : Listed) (ss rest : List Seg) → same ≡ site → ss ≡ s ∷ rest
     → units_at same m (plain_name s ∷ []) ≡ Ok k → units_at site k (map plain_name rest) ≡ units_at site m (map plain_name ss)
 unfolding units_at
@@ -213,32 +165,6 @@ segments_fail {s = s} site same m ss rest e here cut (inr fails) =
     let is : units_at site m (plain_name s ∷ []) ≡ Err e = subst (λ (w : Where). units_at w m (plain_name s ∷ []) ≡ Err e) here fails in
     inr (ap (λ (xs : List Seg). units_at site m (map plain_name xs)) cut
     ∙ ap (λ (r : Result Listed LoadFault). r >>= λ j. units_at site j (map plain_name rest)) (sym (ended new) ∙ is))
-
--- terms inside a term
-pub view-Terms : (ts : Vec Node Global) → tail_view (Terms ts) ≡ terms (nodes_view ts.items)
-view-Terms ts = search (rules, the_lemmas)
-
--- what an object declares that holds terms
-pub object_terms : (site : Where) (l m : Listed) (o : Object) (ps : Parts) (r : Tail) (p : List Seg)
-    (inside : Listed → Where → Result Listed LoadFault) → place_at site (last_label None ps) ≡ Ok p
-    → entry_at site l p (plain_entry site l.entries (kind_of o) p) ≡ Ok m
-    → inside m (under site p) ≡ declare_as (roles.Declares o) site l ps r inside
-unfolding declare_as
-object_terms site l m o ps r p inside placed declared =
-    sym (ap (λ (q : Result (List Seg) LoadFault). q >>= λ p. entry_at site l p (plain_entry site l.entries (kind_of o) p) >>= λ m. inside m (under site p)) placed
-    ∙ ap (λ (q : Result Listed LoadFault). q >>= λ m. inside m (under site p)) declared)
-
--- one term, and those behind it
-pub terms_more : (site : Where) (m k : Listed) (x : Tree) (xs : Trees) → declare site m x ≡ Ok k
-    → declare_all site k xs ≡ declare_all site m (tree_more x xs)
-unfolding declare_all
-terms_more site m k x xs is = sym (ap (λ (r : Result Listed LoadFault). r >>= λ j. declare_all site j xs) is)
-
-pub terms_fail : (site : Where) (m : Listed) (x : Tree) (xs : Trees) (e : LoadFault) → Fails e (declare site m x)
-    → Fails e (declare_all site m (tree_more x xs))
-unfolding declare_all
-terms_fail site m x xs e (inl want) = inl want
-terms_fail site m x xs e (inr fails) = inr (ap (λ (r : Result Listed LoadFault). r >>= λ j. declare_all site j xs) fails)
 
 -- where an entry may be added, it is there
 pub entry_free : (site : Where) (l : Listed) (p : List Seg) (x : Entry)

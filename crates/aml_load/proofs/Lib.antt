@@ -10,7 +10,6 @@ mod Givens
 pub mod BodyLaws
 pub mod NoSpans
 pub mod SpanLaws
-pub mod Asking
 pub mod Agreeing
 pub mod Doing
 pub mod Relating
@@ -23,4 +22,5 @@ pub mod Behind
 pub mod Founds
 pub mod Strict
 pub mod Alone
+pub mod Walks
 mod ShortKinds

@@ -1,20 +1,18 @@
 -- What stands around, as the code keeps it, the nearest last; and where numbers stand for the same paths.
-use Rattle.std.proofs.Common.{◌≡◌, ℕ, ◌+◌, ◌-◌, ◌<◌, List, [], ◌∷◌, ◌++◌, Option, Some, None, length, map, reverse, refl, sym, ap, ap₂, ◌∙◌}
+use Rattle.std.proofs.Common.{◌≡◌, ℕ, ◌+◌, ◌-◌, ◌<◌, List, [], ◌∷◌, ◌++◌, length, map, reverse, refl, sym, ap, ap₂, ◌∙◌}
 use Rattle.std.proofs.Common.{arith, drop, take, get_or, set}
 use Rattle.std.proofs.Math.ListN.{drop_of_length-le}
 use Rattle.std.proofs.Math.Seq.{set-append_seam}
 use Rattle.std.proofs.lemmas.List.{drop_more, take-append-drop, length-take-le}
 use Rattle.std.proofs.lemmas.List.{reverse-append, map-append}
 use Rattle.std.specs.List.{AllByRecursion}
-use Rattle.std.specs.Option.{option_map}
 use Rattle.aml_namespace.specs.Known.{Known}
 use Rattle.aml_load.specs.Hearing.{Around}
 use Rattle.aml_load.specs.Hearing as Hearing
-use Rattle.aml_load.specs.HearingViews.{around_view, head_view, stack_view, IsNumbered, IsHeadNumbered}
+use Rattle.aml_load.specs.HearingViews.{around_view, stack_view, IsNumbered}
 use Rattle.aml_load.specs.Walking.{KeepsPaths}
 use Rattle.aml_load.specs.declared.ears.Around.{Around as KeptAround}
 use Rattle.aml_load.specs.declared.ears.Around.TheVariants as kept
-use Rattle.aml_load.specs.declared.ears.Head.{Head as KeptHead}
 use Rattle.aml_load.proofs.Inside.{same_site, still_among}
 
 module _ (k : Known) where
@@ -63,14 +61,6 @@ module _ (old new : Known) (keeps : KeepsPaths old new) where
   pub still_stack : (xs : List KeptAround) → AllByRecursion (IsNumbered old) xs → AllByRecursion (IsNumbered new) xs
   still_stack [] all = tt
   still_stack (x ∷ xs) all = (still_around x all.0, still_stack xs all.1)
-
-  pub same_head : (h : Option KeptHead) → IsHeadNumbered old h → option_map (head_view new) h ≡ option_map (head_view old) h
-  same_head None own = refl
-  same_head (Some h) own = λ i. Some (record (head_view old h) { site = same_site old new keeps h.site own i })
-
-  pub still_head : (h : Option KeptHead) → IsHeadNumbered old h → IsHeadNumbered new h
-  still_head None own = tt
-  still_head (Some h) own = still_among old new keeps h.site.scope own
 
 -- a list of so many whose last is another one then
 pub last_changed : {X : Type 0} → (xs : List X) (count : ℕ) (d y : X) → count ≡ length xs → 0 < count → (rest : List X)

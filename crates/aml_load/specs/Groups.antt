@@ -1,13 +1,11 @@
 -- A stepping stone: the names outside the methods in groups of one scope.
-use Rattle.std.specs.Prelude.{ℕ, ◌<◌, List, length, map as map_list, flat_map}
+use Rattle.std.specs.Prelude.{◌<◌, List, length, map as map_list, flat_map}
 use Rattle.std.specs.List.{AllByRecursion}
-use Rattle.aml_names.specs.declared.names.Name.{Name}
 use Rattle.aml_names.specs.declared.segments.Seg.{Seg}
 use Rattle.aml_load.specs.declared.used.Asked.{Asked}
-use Rattle.aml_load.specs.declared.uses.Asker.{Asker}
 use Rattle.aml_load.specs.declared.groups.Group.{Group}
 use Rattle.aml_namespace.specs.Known.{Known, path_at}
-use Rattle.aml_load.specs.Declaring.{Use, use_of, strict}
+use Rattle.aml_load.specs.Declaring.{Use}
 
 -- a name that stands in a scope
 abbrev pub use_in : List Seg → Asked → Use
@@ -15,13 +13,6 @@ use_in scope a = record { table = a.table; scope = scope; name = a.name; args = 
 
 abbrev pub named_in : List Seg → List Asked → List Use
 named_in scope names = map_list (use_in scope) names
-
--- one that is asked, and there
-abbrev pub asked_as : Asker → Name → ℕ → Asked
-asked_as a n args = record { table = a.table; name = n; args = args; declaring = a.declaring }
-
-abbrev pub asked_by : List Seg → Asker → Name → ℕ → Use
-asked_by scope a = use_of (strict a.table scope) a.declaring
 
 -- the names of groups, by the paths of a space
 abbrev pub group_uses : Known → Group → List Use

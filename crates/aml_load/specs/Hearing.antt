@@ -4,9 +4,10 @@ use Rattle.std.specs.Prelude.{ℕ, Bool, true, false, cond, ◌&&◌, List, [], 
 use Rattle.std.specs.Option.{unwrap_or, option_map}
 use Rattle.aml_names.specs.declared.names.Name.{Name}
 use Rattle.aml_code.specs.Lawful.{unit_names}
-use Rattle.aml_code.specs.Opcodes.{Row}
+use Rattle.aml_code.specs.Opcodes.{Row, row_of}
 use Rattle.aml_code.specs.Pieces.{Told, absent, name, end_of_call, opcode, part, tail, list, end_of_list, field}
-use Rattle.aml_code.specs.Tree.{nothing, Part, child, label, byte, Field, no_fields, field_more}
+use Rattle.aml_code.specs.Tree.{Tree, nothing, named, op, Part, child, label, byte, Parts, no_parts, part_more}
+use Rattle.aml_code.specs.Tree.{Tail, fields, Field, Fields, no_fields, field_more}
 use Rattle.aml_code.specs.declared.rows.PartKind.{PartKind}
 use Rattle.aml_code.specs.declared.rows.Role.{Role}
 use Rattle.aml_code.specs.declared.rows.Role.TheVariants as roles
@@ -92,6 +93,25 @@ abbrev pub with_part : Part → Head → Head
 with_part (label n) h = record h { begun = true; source = cond h.begun h.source (Some n); last = Some n }
 with_part (byte b) h = record h { begun = true; byte = Some b }
 with_part _ h = record h { begun = true }
+
+-- behind the parts of a term
+abbrev pub behind_head : Parts → Head → Head
+behind_head no_parts h = h
+behind_head (part_more p ps) h = behind_head ps (with_part p h)
+
+-- behind what follows them: the units of a field list
+abbrev pub with_units : Fields → Head → Head
+with_units us h = record h { units = h.units ++ unit_names us }
+
+abbrev pub with_tail : Tail → Head → Head
+with_tail (fields us) h = with_units us h
+with_tail _ h = h
+
+-- the head of a term at a site
+abbrev pub head_at : Where → Tree → Option Head
+head_at w nothing = None
+head_at w (named n ts) = Some (call_at w)
+head_at w (op o width ps t) = Some (with_tail t (behind_head ps (head_of w (row_of o))))
 
 -- what of a part is noted
 abbrev pub noted : Part → Part

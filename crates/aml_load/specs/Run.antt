@@ -1,18 +1,17 @@
 -- A stepping stone: what the terms of a table whose code outside methods may run make of the progress, as `Running` says
 -- it of their trees.
-use Rattle.std.specs.Prelude.{◌≡◌, ◌≤◌, ◌<◌, ℕ, List, [], Ok, IsTrue, true}
+use Rattle.std.specs.Prelude.{◌≡◌, ◌≤◌, ◌<◌, ℕ, List, Ok, IsTrue, true}
 use Rattle.aml_code.specs.Lawful.{next_position}
 use Rattle.aml_code.specs.Tree.{Tree, Trees}
 use Rattle.aml_parse.proofs.Forward.{is_run}
 use Rattle.aml_parse.specs.Reading.{step_at}
 use Rattle.aml_parse.specs.Running.{in_step, is_block, opened_at, run_term_at, run_span_at, run_table_at}
 use Rattle.aml_load.specs.Declaring.{◌>>=◌, Listed}
-use Rattle.aml_load.specs.Loading.{Where}
 use Rattle.aml_load.specs.Running.{counts_in, entered_at, run_names, table_front}
 use Rattle.aml_load.specs.Runner.{below, front_at, span_inside, IsThere}
 use Rattle.aml_load.specs.Opening.{tail_of}
 use Rattle.aml_load.specs.Tables.{Fails}
-use Rattle.aml_load.specs.Walking.{at_site, Holds, IsInside}
+use Rattle.aml_load.specs.Walking.{at_site, root_at, Holds, IsInside}
 use Rattle.aml_load.specs.declared.faults.LoadFault.{LoadFault}
 use Rattle.aml_parse.specs.declared.step.Behind.{Behind}
 use Rattle.aml_load.specs.declared.opening.Opened.{Opened}
@@ -91,12 +90,9 @@ FailsTerms old s r code e = (l : Listed) → Holds old l → Fails e
     (run_span_at (run_names s.table) code r.levels r.position r.at r.end (front_at (at_site old.space s) l))
 
 -- a whole table
-abbrev pub root_of : ℕ → Where
-root_of t = record { table = t; scope = []; any_run = true; sure = true }
-
 abbrev pub RunsTableTo : Progress → Progress → ℕ → List ℕ → Trees → Type 0
 RunsTableTo old new t code ts = (l : Listed) → Holds old l → (m : Listed) × Holds new m
-    × (run_table_at (run_names t) code (table_front t l) ≡ Ok (ts, front_at (root_of t) m))
+    × (run_table_at (run_names t) code (table_front t l) ≡ Ok (ts, front_at (root_at true t) m))
 
 abbrev pub FailsTable : Progress → ℕ → List ℕ → LoadFault → Type 0
 FailsTable old t code e = (l : Listed) → Holds old l → Fails e (run_table_at (run_names t) code (table_front t l))

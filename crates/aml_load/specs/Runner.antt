@@ -10,11 +10,8 @@ use Rattle.aml_code.specs.Faults.{Arities, IsEnd, most_levels}
 use Rattle.aml_code.specs.Lawful.{ReadsStep}
 use Rattle.aml_code.specs.Opcodes.{Row, row_of}
 use Rattle.aml_code.specs.Tree.{Tree, op, Trees, no_trees, terms, body}
-use Rattle.aml_code.specs.View.{node_view}
 use Rattle.aml_code.specs.declared.rows.Position.{Position}
-use Rattle.aml_code.specs.declared.tree.Node.{Node}
-use Rattle.aml_parse.specs.Reading.{step_at}
-use Rattle.aml_parse.specs.Running.{SpanReader, has_terms, in_step}
+use Rattle.aml_parse.specs.Running.{SpanReader, has_terms}
 use Rattle.aml_parse.specs.Running.{run_span_at}
 use Rattle.aml_load.specs.declared.faults.LoadFault.{LoadFault}
 use Rattle.aml_load.specs.declared.faults.LoadFault.TheVariants as loads
@@ -25,9 +22,9 @@ use Rattle.aml_code.specs.declared.rows.Role.{Role}
 use Rattle.aml_code.specs.declared.rows.Role.TheVariants as roles
 use Rattle.aml_load.specs.Declaring.{Listed}
 use Rattle.aml_load.specs.Loading.{Where}
-use Rattle.aml_load.specs.Running.{Front, counts_in, entered_at, run_names}
+use Rattle.aml_load.specs.Running.{Front, run_names}
 use Rattle.aml_load.specs.Tables.{Fails}
-use Rattle.aml_load.specs.Walking.{at_site, Gives, Holds}
+use Rattle.aml_load.specs.Walking.{at_site, Holds}
 
 -- ---- blocks
 
@@ -79,11 +76,6 @@ IsThere code r head behind =
 abbrev pub front_at : Where → Listed → Front
 front_at w l = record { listed = l; site = w }
 
--- reading a step, whatever the progress holds
-abbrev pub Steps : Progress → Site → Rest → List ℕ → Result (Node × ℕ) LoadFault → Type 0
-Steps p s r code answer = (l : Listed) → Holds p l → Gives (λ (x : Node × ℕ). (node_view x.0, x.1)) answer
-    (in_step (run_names s.table) code (step_at (counts_in (front_at (at_site p.space s) l)) r.levels r.position code r.at r.end))
-
 -- what was answered is a site that differs in its scope from one alone, or memory was refused
 abbrev pub IsSiteOf : Result Site LoadFault → (ℕ → Site) → Type 0
 IsSiteOf (Ok s) of = s ≡ of s.scope
@@ -106,10 +98,6 @@ IsFlat roles.Alias = Unit {0}
 IsFlat roles.External = Unit {0}
 IsFlat roles.Fields = Unit {0}
 IsFlat _ = ⊥
-
--- declaring what a term declares itself
-abbrev pub Enters : Progress → Progress → Site → Tree → Result Site LoadFault → Type 0
-Enters old new s head answer = Comes old new s answer (λ f. entered_at f head)
 
 -- what reads the terms inside a term that has so many levels
 abbrev pub below : ℕ → (t : ℕ) → (code : List ℕ) → SpanReader (run_names t) code

@@ -1,20 +1,26 @@
 -- A stepping stone: what a walk over terms found so far, and what a step of it gives, as `Standing` says it.
-use Rattle.std.specs.Prelude.{◌≡◌, ℕ, suc, Bool, true, false, List, [], ◌∷◌, ◌++◌, ◌<◌, length, map, Result, Ok, Err}
-use Rattle.aml_code.specs.Tree.{Tree, op, Trees}
+use Rattle.std.specs.Prelude.{◌≡◌, ℕ, suc, Bool, true, false, List, [], ◌∷◌, ◌++◌, ◌<◌, length, map, Option, Some, Result}
+use Rattle.std.specs.Prelude.{Ok, Err}
+use Rattle.std.specs.Option.{unwrap_or}
+use Rattle.aml_code.specs.Tree.{Tree, op, Trees, no_trees, tree_more, Tail, terms}
 use Rattle.aml_code.specs.View.{node_view}
 use Rattle.aml_load.specs.declared.faults.LoadFault.{LoadFault}
 use Rattle.aml_load.specs.declared.standing.StandingTerm.{StandingTerm}
 use Rattle.aml_load.specs.declared.walking.Progress.{Progress}
 use Rattle.aml_namespace.specs.Namespace.{Givens}
 use Rattle.aml_load.specs.Declaring.{◌>>=◌, strict, Listed, first_listed, declare_all}
+use Rattle.aml_load.specs.Front.{head_enters}
+use Rattle.aml_load.specs.Hearing.{Head, head_at}
+use Rattle.aml_load.specs.HearingViews.{finish_by}
+use Rattle.aml_load.specs.Opening.{tail_of}
 use Rattle.aml_load.specs.Runner.{front_at}
 use Rattle.aml_load.specs.Loading.{Where}
 use Rattle.aml_namespace.specs.Known.{Known, path_at}
 use Rattle.std.specs.List.{AllByRecursion}
-use Rattle.aml_load.specs.Running.{Front, behind_inside, behind_tables}
-use Rattle.aml_load.specs.Standing.{Standing, run_inside_stand}
+use Rattle.aml_load.specs.Running.{behind_tables}
+use Rattle.aml_load.specs.Standing.{◌>>>◌, Standing, stands}
 use Rattle.aml_load.specs.Tables.{Fails}
-use Rattle.aml_load.specs.Walking.{Holds}
+use Rattle.aml_load.specs.Walking.{root_at, Holds}
 
 -- a term that was found, by the paths that have numbers
 abbrev pub standing_view : Known → StandingTerm → Standing
@@ -63,26 +69,69 @@ declares_by true l trees = behind_tables 0 l trees
 abbrev pub set_declares : Bool → Givens → List Trees → Result Listed LoadFault
 set_declares any_run gs trees = declares_by any_run (first_listed gs) trees
 
--- ---- Where the code outside methods may run.
+-- ---- The walk over terms, in one way whether the code outside methods may run or may not. Names that are asked play no
+-- part in it.
 
--- The same of a step at a site: behind it stands what is listed then, where the term stood.
-abbrev pub FoundRun : {X : Type 0} → Progress → Progress → Where → List StandingTerm → List StandingTerm
-    → Result X LoadFault → Result Front LoadFault → List Standing → Type 0
-FoundRun old new w before after (Ok x) walk list = (m : Listed) × Holds new m × (walk ≡ Ok (front_at w m))
-    × IsListOf old new before after list
-FoundRun old new w before after (Err e) walk list = Fails e walk
+-- what a term does by its head, with the span of its body, and where the terms inside it stand, if they declare
+abbrev pub enters_by : Bool → Option Head → Where → Listed → ℕ × ℕ → Result (Listed × Option Where) LoadFault
+enters_by false h site l span = finish_by h l span
+enters_by true h site l span = do
+  f ← head_enters h (front_at site l) span
+  Ok (f.listed, Some f.site)
 
--- whatever the progress holds before
-abbrev pub FindsRun : {X : Type 0} → Progress → Progress → Where → List StandingTerm → List StandingTerm
-    → Result X LoadFault → (Front → Result Front LoadFault) → (Front → List Standing) → Type 0
-FindsRun old new w before after answer walk list = (l : Listed) → Holds old l → AreStanding old.space before →
-    FoundRun old new w before after answer (walk (front_at w l)) (list (front_at w l))
+abbrev pub enters_at : Where → Listed → Tree → Result (Listed × Option Where) LoadFault
+enters_at site l t = enters_by site.any_run (head_at site t) site l (unwrap_or (tail_of t) (0, 0))
 
--- what stands behind the terms inside a term, and these terms, in front of which this front stands
-abbrev pub behind_within : Front → Tree → Result Front LoadFault
-behind_within f (op o w ps r) = behind_inside f r
-behind_within f _ = Ok f
+-- what terms and those inside them declare
+unfoldable mutual
+  pub walk : Where → Listed → Tree → Result Listed LoadFault
+  walk site l (op o w ps r) = do
+    y ← enters_at site l (op o w ps r)
+    walk_inside y.1 y.0 r
+  walk site l _ = Ok l
 
-abbrev pub within_stand : Front → Tree → List Standing
-within_stand f (op o w ps r) = run_inside_stand f r
-within_stand f _ = []
+  pub walk_inside : Option Where → Listed → Tail → Result Listed LoadFault
+  walk_inside (Some site) l (terms ts) = walk_all site l ts
+  walk_inside _ l _ = Ok l
+
+  pub walk_all : Where → Listed → Trees → Result Listed LoadFault
+  walk_all site l no_trees = Ok l
+  walk_all site l (tree_more x xs) = do
+    k ← walk site l x
+    walk_all site k xs
+
+-- and these terms, each where it stands
+unfoldable mutual
+  pub met : Where → Listed → Tree → List Standing
+  met site l (op o w ps r) =
+      stands site (op o w ps r) ∷ (enters_at site l (op o w ps r) >>> λ y. met_inside y.1 y.0 r)
+  met site l t = stands site t ∷ []
+
+  pub met_inside : Option Where → Listed → Tail → List Standing
+  met_inside (Some site) l (terms ts) = met_all site l ts
+  met_inside _ l _ = []
+
+  pub met_all : Where → Listed → Trees → List Standing
+  met_all site l no_trees = []
+  met_all site l (tree_more x xs) = met site l x ++ (walk site l x >>> λ k. met_all site k xs)
+
+-- the terms inside a term
+abbrev pub walk_within : Option Where → Listed → Tree → Result Listed LoadFault
+walk_within site l (op o w ps r) = walk_inside site l r
+walk_within site l _ = Ok l
+
+abbrev pub met_within : Option Where → Listed → Tree → List Standing
+met_within site l (op o w ps r) = met_inside site l r
+met_within site l _ = []
+
+-- those of the tables from number t on, each table from the root
+unfoldable pub walk_tables : Bool → ℕ → Listed → List Trees → Result Listed LoadFault
+walk_tables any_run t l [] = Ok l
+walk_tables any_run t l (ts ∷ rest) = do
+  k ← walk_all (root_at any_run t) l ts
+  walk_tables any_run (suc t) k rest
+
+unfoldable pub met_tables : Bool → ℕ → Listed → List Trees → List Standing
+met_tables any_run t l [] = []
+met_tables any_run t l (ts ∷ rest) = met_all (root_at any_run t) l ts
+    ++ (walk_all (root_at any_run t) l ts >>> λ k. met_tables any_run (suc t) k rest)

@@ -24,6 +24,10 @@ use Rattle.aml_set.specs.Methods.{methods_in, AreNumbered}
 abbrev pub at_site : Known → Site → Where
 at_site k s = record { table = s.table; scope = path_at k s.scope; any_run = s.any_run; sure = s.sure }
 
+-- where the first term of table t stands
+abbrev pub root_at : Bool → ℕ → Where
+root_at any_run t = record { table = t; scope = []; any_run = any_run; sure = true }
+
 -- whether an entry of a path may be added there, as the definition says it of any entry
 abbrev pub IsFree : Where → List Entry → List Seg → Result (Unit {0}) LoadFault → Type 0
 IsFree site es p (Ok u) = (not site.any_run && is_some (declared_at es p)) ≡ false

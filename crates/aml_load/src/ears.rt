@@ -147,33 +147,15 @@ fn shape_by(tail: Option<TailKind>) -> Shape
 }
 
 impl Head {
-    /// A term of this row at a site, of which nothing else was told.
-    fn new(alloc: Global, site: Site, row: &OpRow) -> Head
-        ensures head { (k : Known) → head_view k result ≡ head_of (at_site k site) (Some (row_view row.now)) }
-        ensures site { result.site ≡ site }
-    {
-        Head {
-            site,
-            declaring: declares_by(row.group),
-            shape: shape_by(row.tail),
-            role: row.role,
-            begun: false,
-            source: None,
-            later: None,
-            byte: None,
-            units: Vec::new(alloc),
-        }
-    }
-
-    /// A name at a site that is a term.
-    fn call(alloc: Global, site: Site) -> Head
-        ensures head { (k : Known) → head_view k result ≡ call_at (at_site k site) }
+    /// A term at a site whose opcode has no row, of which nothing else was told.
+    pub fn unlisted(alloc: Global, site: Site) -> Head
+        ensures head { (k : Known) → head_view k result ≡ head_of (at_site k site) None }
         ensures site { result.site ≡ site }
     {
         Head {
             site,
             declaring: false,
-            shape: Shape::Call,
+            shape: Shape::Flat,
             role: Role::Other,
             begun: false,
             source: None,
@@ -183,8 +165,30 @@ impl Head {
         }
     }
 
+    /// A term of this row at a site, of which nothing else was told.
+    pub fn new(alloc: Global, site: Site, row: &OpRow) -> Head
+        ensures head { (k : Known) → head_view k result ≡ head_of (at_site k site) (Some (row_view row.now)) }
+        ensures site { result.site ≡ site }
+    {
+        let mut head = Head::unlisted(alloc, site);
+        head.declaring = declares_by(row.group);
+        head.shape = shape_by(row.tail);
+        head.role = row.role;
+        head
+    }
+
+    /// A name at a site that is a term.
+    pub fn call(alloc: Global, site: Site) -> Head
+        ensures head { (k : Known) → head_view k result ≡ call_at (at_site k site) }
+        ensures site { result.site ≡ site }
+    {
+        let mut head = Head::unlisted(alloc, site);
+        head.shape = Shape::Call;
+        head
+    }
+
     /// Behind a part.
-    fn note(&mut self, noted: &Noted<'_>) -> Result<(), NoMemory>
+    pub fn note(&mut self, noted: &Noted<'_>) -> Result<(), NoMemory>
         ensures noted { (k : Known) → OnOk result
             (head_view k self.new ≡ with_part (noted_view noted.now) (head_view k self.old)) }
         ensures site { OnOk result (self.new.site ≡ self.old.site) }
@@ -226,7 +230,7 @@ impl Head {
     }
 
     /// Behind an element of a field list.
-    fn add_unit(&mut self, field: &Field) -> Result<(), NoMemory>
+    pub fn add_unit(&mut self, field: &Field) -> Result<(), NoMemory>
         ensures unit { (k : Known) → OnOk result
             (head_view k self.new ≡ with_unit (field_view field.now) (head_view k self.old)) }
         ensures site { OnOk result (self.new.site ≡ self.old.site) }

@@ -17,11 +17,7 @@ pub struct Group {
 }
 
 /// Adds names that stand in a scope: to the last group, where that is this scope's, or else as a group behind it.
-pub fn add_group(
-    groups: &mut Vec<Group>,
-    scope: PathId,
-    mut names: Vec<Asked>,
-) -> Result<(), NoMemory>
+fn add_group(groups: &mut Vec<Group>, scope: PathId, mut names: Vec<Asked>) -> Result<(), NoMemory>
     ensures added { (k : Known) → OnOk result
         (uses_of k groups.new.items ≡ uses_of k groups.old.items ++ named_in (path_at k scope) names.items) }
     ensures known { (k : Known) → scope < length k.paths → AreKnown k groups.old.items →

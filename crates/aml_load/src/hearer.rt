@@ -17,7 +17,6 @@ ghost use Rattle.aml_load.specs.declared.faults.LoadFault.{LoadFault as AnyFault
 use crate::ears::{Around, Ears, is_silent};
 use crate::faults::LoadFault;
 use crate::hearing::Hearing;
-use crate::uses::Site;
 use crate::walking::Progress;
 use aml_code::{Both, CodeFault, NoMemory, Piece, Sink, TableSink, Telling};
 use aml_parse::tell_module;
@@ -37,12 +36,7 @@ impl Hearer {
     fn new(progress: Progress, table: usize) -> Result<Hearer, NoMemory>
         ensures { (l : Listed) → Holds progress l → IfOk result (λ x. Says (x.hearing, x.fault) (Ok (begun table l))) }
     {
-        let root = Site {
-            table,
-            scope: progress.space.root(),
-            any_run: false,
-            sure: true,
-        };
+        let root = progress.root_site(table, false);
         let ears = Ears::new(progress.alloc, Around::Terms(root))?;
         let hearing = Hearing { progress, ears };
         Ok(Hearer {

@@ -8,6 +8,7 @@ mod bodies;
 mod ears;
 mod faults;
 mod groups;
+mod heads;
 mod hearer;
 mod hearing;
 mod laws;

@@ -232,12 +232,7 @@ impl Progress {
             × RunsTableTo self.old self.new table code.now ts)) }
         ensures fails { IfErr result (FailsTable self.old table code.now) }
     {
-        let root = Site {
-            table,
-            scope: self.space.root(),
-            any_run: true,
-            sure: true,
-        };
+        let root = self.root_site(table, true);
         let whole = Rest {
             level: 1,
             levels: MOST_LEVELS,

@@ -1,6 +1,5 @@
 //! The walk over a table whose code outside methods may run.
 ghost use Rattle.std.specs.Prelude.{◌≡◌, [], length, IfOk, OnOk, Ok};
-ghost use Rattle.aml_code.specs.View.{node_view, parts_view, tail_view};
 ghost use Rattle.std.specs.Prelude.{is_some, ◌&&◌};
 ghost use Rattle.std.specs.Option.{option_copied};
 ghost use Rattle.std.specs.FinSet as set;
@@ -8,25 +7,21 @@ ghost use Rattle.aml_namespace.specs.Namespace.{namespace_of, found};
 ghost use Rattle.aml_namespace.specs.Known.{StandsFor};
 ghost use Rattle.aml_space.specs.Below.{path_below};
 ghost use Rattle.aml_namespace.specs.Known.{StandsAt, path_at};
-ghost use Rattle.aml_load.specs.Declaring.{Listed, declare_as};
-ghost use Rattle.aml_load.specs.Running.{opened_at, object_at, scope_at, enter_as};
+ghost use Rattle.aml_load.specs.Declaring.{Listed};
+ghost use Rattle.aml_load.specs.Running.{opened_at, object_at, scope_at};
 ghost use Rattle.aml_namespace.specs.Kinds.{kind_in};
-ghost use Rattle.aml_load.specs.Walking.{at_site, GivesIn, Walks, Holds, IsInside, Stays, AreBelow, IsPlain};
-ghost use Rattle.aml_load.specs.Runner.{IsFlat, IsSiteOf, Comes, opens, span_inside};
-ghost use Rattle.aml_load.specs.Runner.{Enters};
+ghost use Rattle.aml_load.specs.Walking.{at_site, GivesIn, Holds, IsInside, Stays, AreBelow, IsPlain};
+ghost use Rattle.aml_load.specs.Runner.{IsFlat, IsSiteOf, Comes};
 ghost use Rattle.aml_load.specs.Front.{enters_as, head_enters};
 ghost use Rattle.aml_load.specs.HearingViews.{head_view};
 ghost use Rattle.std.specs.Prelude.{IfSome, option_map};
 
 use crate::ears::{Head, Shape};
 use crate::faults::LoadFault;
-use crate::roles::{kind_of, role_of};
+use crate::roles::kind_of;
 use crate::uses::Site;
 use crate::walking::Progress;
-use aml_code::{
-    Arity, Locals, Name, NoMemory, Node, Part, Position, Role, Tail, TailKind, last_name,
-    listed_row,
-};
+use aml_code::{Arity, Locals, Name, NoMemory, Position, Role};
 use aml_space::{Below, BodyNames, Kind, PathId, SpaceFault};
 use std::alloc::Global;
 
@@ -95,39 +90,6 @@ impl Arity for RunNames<'_> {
     fn count(&self, alloc: Global, locals: &Locals, name: &Name) -> Result<Option<u8>, NoMemory> {
         let count = self.names.count(alloc, locals, name)?;
         Ok(Some(count.unwrap_or(0)))
-    }
-}
-
-/// Whether terms stand inside a term with this opcode.
-fn opens(opcode: u16) -> bool
-    ensures { result ≡ opens opcode }
-{
-    match listed_row(opcode) {
-        None => false,
-        Some(row) => match row.tail {
-            Some(TailKind::Terms) => true,
-            _ => false,
-        },
-    }
-}
-
-/// The span of the terms inside a term that was read without them: where it begins, and its length.
-pub fn span_inside(head: &Node) -> Option<(u32, u32)>
-    ensures { result ≡ span_inside (node_view head.now) }
-{
-    match head {
-        Node::Op {
-            opcode,
-            tail: Tail::Body { start, len },
-            ..
-        } => {
-            if opens(*opcode) {
-                Some((*start, *len))
-            } else {
-                None
-            }
-        }
-        _ => None,
     }
 }
 
@@ -203,29 +165,6 @@ impl Progress {
         let sure = here.sure && self.space.is_scope(&path);
         here.under(self, &path, sure)
     }
-
-    /// Does what the role of a term does that opens nothing.
-    #[tactic(auto, unfolding(crate::specs::Declaring::declare_as))]
-    fn declare_flat(
-        &mut self,
-        site: &Site,
-        role: Role,
-        parts: &[Part],
-        tail: &Tail,
-    ) -> Result<(), LoadFault>
-        requires { IsInside self.old site.now }
-        ensures walks { IsFlat role → Walks self.old self.new result (λ l.
-            declare_as role (at_site self.old.space site.now) l (parts_view parts.now) (tail_view tail.now) (λ l below. Ok l)) }
-        ensures stays { OnOk result (Stays self.old self.new) }
-    {
-        match role {
-            Role::Method => self.add_method(site, parts, tail),
-            Role::Alias => self.add_alias(site, parts),
-            Role::External => self.add_external(site, parts),
-            Role::Fields => self.add_units(site, tail),
-            _ => Ok(()),
-        }
-    }
 }
 
 #[tactic(auto, unfolding(crate::specs::Front::enters_as, crate::specs::Hearing::enter_as))]
@@ -291,72 +230,6 @@ impl Progress {
                 Shape::Call => Ok(here.also(true)),
                 _ => self.enter_operation(here, head, span),
             },
-        }
-    }
-}
-
-#[tactic(auto, unfolding(crate::specs::Running::enter_as))]
-impl Progress {
-    /// Does what the role of a term does that opens nothing, and stays where it is.
-    fn enter_flat(
-        &mut self,
-        here: &Site,
-        role: Role,
-        parts: &[Part],
-        tail: &Tail,
-    ) -> Result<Site, LoadFault>
-        requires { IsInside self.old here.now }
-        ensures comes { IsFlat role → Comes self.old self.new here.now result (λ f.
-            enter_as role f (parts_view parts.now) (tail_view tail.now)) }
-        ensures within { IfOk result (IsInside self.new) }
-        ensures stays { OnOk result (Stays self.old self.new) }
-    {
-        self.declare_flat(here, role, parts, tail)?;
-        Ok(here.also(true))
-    }
-
-    /// Does what the role of a term does.
-    fn enter_role(
-        &mut self,
-        here: &Site,
-        role: Role,
-        parts: &[Part],
-        tail: &Tail,
-    ) -> Result<Site, LoadFault>
-        requires { IsInside self.old here.now }
-        ensures comes { Comes self.old self.new here.now result (λ f.
-            enter_as role f (parts_view parts.now) (tail_view tail.now)) }
-        ensures within { IfOk result (IsInside self.new) }
-        ensures stays { OnOk result (Stays self.old self.new) }
-    {
-        match role {
-            Role::Declares(object) => self.enter_object(here, last_name(parts), kind_of(object)),
-            Role::Scope => self.enter_scope(here, last_name(parts)),
-            Role::Guard => Ok(here.also(false)),
-            Role::Other => Ok(here.also(false)),
-            _ => self.enter_flat(here, role, parts, tail),
-        }
-    }
-}
-
-impl Progress {
-    /// Declares what a term declares itself, and says where the terms inside it stand.
-    #[tactic(auto, unfolding(crate::specs::Running::entered_at))]
-    pub fn enter(&mut self, site: &Site, head: &Node) -> Result<Site, LoadFault>
-        requires { IsInside self.old site.now }
-        ensures comes { Enters self.old self.new site.now (node_view head.now) result }
-        ensures within { IfOk result (IsInside self.new) }
-        ensures stays { OnOk result (Stays self.old self.new) }
-    {
-        self.ask(site, head)?;
-        match head {
-            Node::Nothing | Node::Named { .. } => Ok(site.also(true)),
-            Node::Op {
-                opcode,
-                parts,
-                tail,
-                ..
-            } => self.enter_role(site, role_of(*opcode), parts.as_slice(), tail),
         }
     }
 }

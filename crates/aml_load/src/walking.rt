@@ -2,28 +2,26 @@
 ghost use Rattle.std.specs.Prelude.{◌≡◌, ◌∷◌, [], Option, Some, None, Ok, IfOk, IfSome, OnOk, true, length, ◌<◌, map};
 ghost use Rattle.std.specs.Option.{option_copied};
 ghost use Rattle.std.specs.List.{list_all};
-ghost use Rattle.aml_code.specs.Lawful.{last_label, field_names, plain_name, unit_names};
-ghost use Rattle.aml_code.specs.Tree.{no_fields, field_more};
-ghost use Rattle.aml_code.specs.View.{node_view, parts_view, tail_view, fields_view, field_view};
+ghost use Rattle.aml_code.specs.Lawful.{plain_name};
 ghost use Rattle.aml_namespace.specs.Namespace.{Body, declares, external as outside};
 ghost use Rattle.aml_namespace.specs.Runs.{outlook_of, sure_at, open_in};
 ghost use Rattle.aml_namespace.specs.Kinds.{kind_in, IsAmong};
 ghost use Rattle.aml_namespace.specs.Known.{StandsAt, StandsFor};
 ghost use Rattle.aml_namespace.specs.declared.kinds.Kind.TheVariants.{Alias};
 ghost use Rattle.aml_space.specs.Below.{path_below, path_behind};
-ghost use Rattle.aml_load.specs.Declaring.{Listed, plus, with_uses, first_label, byte_of, lead_of, target_of};
-ghost use Rattle.aml_load.specs.Declaring.{body_span, place_at, lead_at, entry_at, new_at, method_at, alias_at};
-ghost use Rattle.aml_load.specs.Declaring.{external_at, units_at, declare};
+ghost use Rattle.aml_load.specs.Declaring.{Listed, plus, lead_of, target_of};
+ghost use Rattle.aml_load.specs.Declaring.{place_at, lead_at, entry_at, new_at, method_at, alias_at};
+ghost use Rattle.aml_load.specs.Declaring.{external_at, units_at};
 ghost use Rattle.aml_load.specs.Loading.{method_entry, parent_of, sure_with, plain_entry};
 ghost use Rattle.aml_load.specs.Walking.{at_site, Gives, GivesIn, IsDeclared, Walks, IsInside, Stays, Holds, IsBelow, AreBelow, IsPlain};
-ghost use Rattle.aml_load.specs.Walking.{source_path, source_paths, sure_of};
+ghost use Rattle.aml_load.specs.Walking.{root_at, source_path, source_paths, sure_of};
 ghost use Rattle.aml_load.specs.Groups.{AreKnown, uses_of};
 ghost use Rattle.aml_load.specs.Hearing.{with_more};
 
 use crate::faults::LoadFault;
-use crate::groups::{Group, add_group, add_groups};
-use crate::uses::{Site, add_names};
-use aml_code::{Field, Name, NoMemory, Node, Part, Seg, Tail, last_byte, last_name};
+use crate::groups::{Group, add_groups};
+use crate::uses::Site;
+use aml_code::{Name, NoMemory, Seg};
 use aml_set::Method;
 use aml_space::{Below, Kind, PathId, Space, SpaceFault};
 use std::alloc::Global;
@@ -41,30 +39,18 @@ pub struct Progress {
     pub uses: Vec<Group>,
 }
 
-/// The last byte of the parts: a method's flags, an External's number of arguments.
-fn byte_in(parts: &[Part]) -> u8
-    ensures { result ≡ byte_of (parts_view parts.now) }
-{
-    last_byte(parts).unwrap_or(0)
-}
-
-/// Where a method's body begins, and its length.
-fn body_span(tail: &Tail) -> (u32, u32)
-    ensures { result ≡ body_span (tail_view tail.now) }
-{
-    match tail {
-        Tail::Body { start, len } => (*start, *len),
-        _ => (0, 0),
-    }
-}
-
-/// The first part, if it is a name: of an Alias, its source.
-fn first_name(parts: &[Part]) -> Option<&Name>
-    ensures { option_copied result ≡ first_label (parts_view parts.now) }
-{
-    match parts {
-        [Part::Label(name), ..] => Some(name),
-        _ => None,
+impl Progress {
+    /// Where the first term of a table stands.
+    pub fn root_site(&self, table: usize, any_run: bool) -> Site
+        ensures site { at_site self.now.space result ≡ root_at any_run table }
+        ensures inside { IsInside self.now result }
+    {
+        Site {
+            table,
+            scope: self.space.root(),
+            any_run,
+            sure: true,
+        }
     }
 }
 
@@ -420,41 +406,6 @@ impl Progress {
     }
 }
 
-impl Progress {
-    /// Declares the method of a term.
-    pub fn add_method(&mut self, site: &Site, parts: &[Part], tail: &Tail) -> Result<(), LoadFault>
-        requires { IsInside self.old site.now }
-        ensures walks { Walks self.old self.new result (λ l.
-            method_at (at_site self.old.space site.now) l (last_label None (parts_view parts.now))
-            (byte_of (parts_view parts.now)) (body_span (tail_view tail.now))) }
-        ensures stays { OnOk result (Stays self.old self.new) }
-    {
-        self.declare_one_method(site, last_name(parts), byte_in(parts), body_span(tail))
-    }
-
-    /// Declares the Alias of a term.
-    pub fn add_alias(&mut self, site: &Site, parts: &[Part]) -> Result<(), LoadFault>
-        requires { IsInside self.old site.now }
-        ensures walks { Walks self.old self.new result (λ l.
-            alias_at (at_site self.old.space site.now) l (first_label (parts_view parts.now))
-            (last_label None (parts_view parts.now))) }
-        ensures stays { OnOk result (Stays self.old self.new) }
-    {
-        self.declare_one_alias(site, first_name(parts), last_name(parts))
-    }
-
-    /// Adds the External of a term.
-    pub fn add_external(&mut self, site: &Site, parts: &[Part]) -> Result<(), LoadFault>
-        requires { IsInside self.old site.now }
-        ensures walks { Walks self.old self.new result (λ l.
-            external_at (at_site self.old.space site.now) l (last_label None (parts_view parts.now))
-            (byte_of (parts_view parts.now))) }
-        ensures stays { OnOk result (Stays self.old self.new) }
-    {
-        self.declare_external(site, last_name(parts), byte_in(parts))
-    }
-}
-
 #[tactic(auto, unfolding(crate::specs::Declaring::units_at))]
 impl Progress {
     /// Declares the unit of a field list with this segment.
@@ -483,43 +434,6 @@ impl Progress {
         }
         Ok(())
     }
-
-    fn add_field(&mut self, site: &Site, field: &Field) -> Result<(), LoadFault>
-        requires { IsInside self.old site.now }
-        ensures walks { Walks self.old self.new result (λ l.
-            units_at (at_site self.old.space site.now) l (unit_names (field_more (field_view field.now) no_fields))) }
-        ensures stays { OnOk result (Stays self.old self.new) }
-    {
-        match field {
-            Field::NamedUnit { seg, .. } => self.add_unit(site, seg),
-            _ => Ok(()),
-        }
-    }
-
-    fn add_fields(&mut self, site: &Site, fields: &[Field]) -> Result<(), LoadFault>
-        requires { IsInside self.old site.now }
-        ensures walks { Walks self.old self.new result (λ l.
-            units_at (at_site self.old.space site.now) l (unit_names (fields_view fields.now))) }
-        ensures stays { OnOk result (Stays self.old self.new) }
-    {
-        for field in fields {
-            self.add_field(site, field)?;
-        }
-        Ok(())
-    }
-
-    /// Declares the named units of a field list.
-    pub fn add_units(&mut self, site: &Site, tail: &Tail) -> Result<(), LoadFault>
-        requires { IsInside self.old site.now }
-        ensures walks { Walks self.old self.new result (λ l.
-            units_at (at_site self.old.space site.now) l (field_names (tail_view tail.now))) }
-        ensures stays { OnOk result (Stays self.old self.new) }
-    {
-        match tail {
-            Tail::Fields(fields) => self.add_fields(site, fields.as_slice()),
-            _ => Ok(()),
-        }
-    }
 }
 
 impl Progress {
@@ -546,19 +460,5 @@ impl Progress {
             return Ok(());
         }
         add_groups(&mut self.uses, uses)
-    }
-}
-
-impl Progress {
-    /// Adds the names that stand as TermArgs in a term, or as the term, outside the terms inside it.
-    pub fn ask(&mut self, site: &Site, term: &Node) -> Result<(), NoMemory>
-        requires { IsInside self.old site.now }
-        ensures asks { OnOk result ((l : Listed) → Holds self.old l →
-            Holds self.new (with_uses (at_site self.old.space site.now) l (node_view term.now))) }
-        ensures space { self.new.space ≡ self.old.space }
-    {
-        let mut names = Vec::new(self.alloc);
-        add_names(site.table, term, &mut names)?;
-        add_group(&mut self.uses, site.scope, names)
     }
 }

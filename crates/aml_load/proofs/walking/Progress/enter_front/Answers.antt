@@ -1,5 +1,4 @@
-use Rattle.std.proofs.Common.{◌≡◌, Bool, cond, List, Option, Some, None, option_map, refl, sym, ap, subst, ◌∙◌}
-use Rattle.std.specs.Option.{option_copied}
+use Rattle.std.proofs.Common.{◌≡◌, Bool, cond, List, None, option_map, refl, sym, ap, subst, ◌∙◌}
 use Rattle.aml_namespace.specs.Known.{Known}
 use Rattle.aml_load.specs.Declaring.{Use, with_uses}
 use Rattle.aml_load.specs.Front.{head_enters}
@@ -8,14 +7,9 @@ use Rattle.aml_load.specs.Hearing.{with_more}
 use Rattle.aml_load.specs.HearingViews.{head_view}
 use Rattle.aml_load.specs.Runner.{front_at}
 use Rattle.aml_load.specs.Walking.{KeepsPaths, at_site}
-use Rattle.aml_load.specs.declared.ears.Head.{Head as KeptHead}
+use Rattle.aml_load.proofs.Fronts.{views}
 use Rattle.aml_load.proofs.walking.Progress.enter_front.Goals as goal
 use Rattle.aml_load.proofs.walking.Progress.enter_front.Goals.{then-is_block, else-is_block}
-use denote.Ref.{Bor}
-
-views : (k : Known) (head : Option (Bor KeptHead)) → option_map (λ h. head_view k h.now) head ≡ option_map (head_view k) (option_copied head)
-views k None = refl
-views k (Some h) = refl
 
 pub returns-clause-comes : goal.returns-clause-comes
 returns-clause-comes c t heard =
