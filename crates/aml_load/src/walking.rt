@@ -122,7 +122,8 @@ impl Progress {
     ) -> Result<Below<'n>, LoadFault>
         ensures below { AreBelow self.now.space result }
         ensures gives { GivesIn (path_below self.now.space.paths) self.now.space result (λ l.
-            lead_at (at_site self.now.space site.now) l.entries (option_copied name.entry) (λ p. SpaceFault.ScopeMissing p)) }
+            lead_at (at_site self.now.space site.now) l.entries
+            (option_copied name.entry) (λ p. SpaceFault.ScopeMissing p)) }
     {
         let Some(name) = name else {
             return Err(LoadFault::Space(site.table, SpaceFault::AboveRoot));
@@ -144,7 +145,8 @@ impl Progress {
     fn source_path<'n>(&self, site: &Site, name: Option<&'n Name>) -> Result<Below<'n>, LoadFault>
         ensures below { AreBelow self.now.space result }
         ensures gives { GivesIn (path_below self.now.space.paths) self.now.space result (λ l.
-            lead_at (at_site self.now.space site.now) l.entries (option_copied name.entry) (λ p. SpaceFault.AliasMissing p)) }
+            lead_at (at_site self.now.space site.now) l.entries
+            (option_copied name.entry) (λ p. SpaceFault.AliasMissing p)) }
     {
         let Some(name) = name else {
             return Err(LoadFault::Space(site.table, SpaceFault::AboveRoot));
@@ -191,7 +193,8 @@ impl Progress {
     /// Whether a path that is declared at a site is declared in every run. `source`: what an Alias is declared of.
     pub fn is_sure_here(&self, site: &Site, path: &Below<'_>, source: Option<&Below<'_>>) -> bool
         ensures { (l : Listed) → StandsFor self.now.space l.entries →
-            result ≡ sure_of (at_site self.now.space site.now) l.entries (path_below self.now.space.paths path.now) (source_path self.now.space.paths (option_copied source.entry)) }
+            result ≡ sure_of (at_site self.now.space site.now) l.entries (path_below self.now.space.paths path.now)
+            (source_path self.now.space.paths (option_copied source.entry)) }
     {
         if !site.any_run {
             return site.sure;
@@ -216,7 +219,8 @@ impl Progress {
         ensures declared { (l : Listed) (body : Option Body) → StandsFor self.old.space l.entries →
             IsDeclared (at_site self.old.space site.now) l.entries (path_below self.old.space.paths path.now)
             (declares (path_below self.old.space.paths path.now) (kind_in self.old.space.paths kind) body
-            (sure_of (at_site self.old.space site.now) l.entries (path_below self.old.space.paths path.now) (source_path self.old.space.paths (option_copied source.entry))))
+            (sure_of (at_site self.old.space site.now) l.entries (path_below self.old.space.paths path.now)
+            (source_path self.old.space.paths (option_copied source.entry))))
             self.old self.new result }
         ensures stays { OnOk result (Stays self.old self.new) }
     {
@@ -248,7 +252,8 @@ impl Progress {
         ensures walks { Walks self.old self.new result (λ l.
             entry_at (at_site self.old.space site.now) l (path_below self.old.space.paths path.now)
             (declares (path_below self.old.space.paths path.now) (kind_in self.old.space.paths kind) None
-            (sure_of (at_site self.old.space site.now) l.entries (path_below self.old.space.paths path.now) (source_path self.old.space.paths (option_copied source.entry))))) }
+            (sure_of (at_site self.old.space site.now) l.entries (path_below self.old.space.paths path.now)
+            (source_path self.old.space.paths (option_copied source.entry))))) }
         ensures stays { OnOk result (Stays self.old self.new) }
     {
         self.declare_path(site, path, kind, source)
@@ -266,7 +271,8 @@ impl Progress {
         requires plain { IsPlain kind (kind_in [] kind) }
         ensures walks { Walks self.old self.new result (λ l.
             entry_at (at_site self.old.space site.now) l (path_below self.old.space.paths path.now)
-            (plain_entry (at_site self.old.space site.now) l.entries (kind_in [] kind) (path_below self.old.space.paths path.now))) }
+            (plain_entry (at_site self.old.space site.now) l.entries (kind_in [] kind)
+            (path_below self.old.space.paths path.now))) }
         ensures stays { OnOk result (Stays self.old self.new) }
     {
         self.declare_of(site, path, kind, None)
@@ -283,8 +289,10 @@ impl Progress {
     ) -> Result<(), LoadFault>
         requires inside { IsInside self.old site.now }
         requires below { IsBelow self.old.space path.now }
-        ensures walks { Walks self.old self.new result (λ l. entry_at (at_site self.old.space site.now) l (path_below self.old.space.paths path.now)
-            (method_entry (at_site self.old.space site.now) l.entries flags (start, len) (path_below self.old.space.paths path.now))) }
+        ensures walks { Walks self.old self.new result
+            (λ l. entry_at (at_site self.old.space site.now) l (path_below self.old.space.paths path.now)
+            (method_entry (at_site self.old.space site.now) l.entries flags (start, len)
+            (path_below self.old.space.paths path.now))) }
         ensures stays { OnOk result (Stays self.old self.new) }
     {
         self.declare_path(site, path, Kind::Method { args: flags % 8 }, None)?;
@@ -313,8 +321,10 @@ impl Progress {
         requires below { IsBelow self.old.space source.now }
         ensures walks { Walks self.old self.new result (λ l.
             new_at (at_site self.old.space site.now) l (option_copied name.entry) (λ p. declares p
-            (Alias (open_in (outlook_of l.entries) (path_below self.old.space.paths source.now)) (target_of l.entries (path_below self.old.space.paths source.now))) None
-            (sure_with (at_site self.old.space site.now) l.entries (parent_of p ∷ (path_below self.old.space.paths source.now) ∷ [])))) }
+            (Alias (open_in (outlook_of l.entries) (path_below self.old.space.paths source.now))
+            (target_of l.entries (path_below self.old.space.paths source.now))) None
+            (sure_with (at_site self.old.space site.now) l.entries (parent_of p
+            ∷ (path_below self.old.space.paths source.now) ∷ [])))) }
         ensures stays { OnOk result (Stays self.old self.new) }
     {
         let path = self.own_path(site, name)?;
