@@ -205,6 +205,7 @@ sys.exit(status)
 P
 try_any_run='acpidis: try --any-run, which takes what a run would declare; acpidis-refused FOLDER shows what stands there'
 ask_refused='acpidis: acpidis-refused FOLDER shows what stands there, and ways on'
+ask_in_any_run='acpidis: acpidis-refused --any-run FOLDER shows what stands there, and ways on'
 
 # led NAME LINE WAY WORD..: this line, and behind it the way on
 led() {
@@ -223,12 +224,12 @@ led 'code outside methods' 'acpidis: table "dsdt.dat": ModuleCode at 0' "$try_an
 led 'a path declared twice' 'acpidis: table "dsdt.dat": Duplicate \AAAA' "$try_any_run" twice
 led 'a Scope that is not there' 'acpidis: table "dsdt.dat": ScopeMissing \AAAA' "$try_any_run" scope
 led 'an Alias of nothing' 'acpidis: table "dsdt.dat": AliasMissing \BBBB' "$ask_refused" alias
-led 'a Return in any run' 'acpidis: table "dsdt.dat": ModuleCode at 0' "$ask_refused" --any-run return
+led 'a Return in any run' 'acpidis: table "dsdt.dat": ModuleCode at 0' "$ask_in_any_run" --any-run return
 led 'a wrong checksum' 'acpidis: table "ssdt1.dat": BadSum' "$ask_refused" summed
 led 'a file that is named as a refusal' 'acpidis: table ": Duplicate \x5C": Short' "$ask_refused" named
 led 'no tables' 'acpidis: NoDsdt' "$ask_refused" empty
 led 'no folder' 'acpidis: cannot read folder' "acpidis: \"nowhere\" isn't there" nowhere
-led 'a file' 'acpidis: cannot read folder' 'acpidis: "file" is a file: put it into a folder, and name that' file
+led 'a file' 'acpidis: cannot read folder' 'acpidis: "file" is a file: put it into a folder, and name that; acpidis-unpack takes acpidump'"'"'s text' file
 row 'raw bodies, to a terminal' 3 "$raw_errors" python3 terminal.py ./program raw
 row 'nothing to say, to a terminal' 0 '' python3 terminal.py ./program folder
 

@@ -57,7 +57,7 @@ is 'the survey as a command' "$(cd "$work" && mkdir -p sets && cp -r "$demo" set
 is 'pages that the manual names' "$(sed -n 's|.*doc/acpidis/\([a-z_]*\.md\).*|\1|p' "$page" | sort -u |
     while read -r name; do [ -f "$docs/$name" ] || echo "$name"; done)" ''
 is 'commands that the pages name' "$(grep -oh '`acpidis-[a-z]*' "$docs"/*.md | tr -d '`' | sort -u |
-    while read -r name; do [ -x "$prefix/bin/$name" ] || echo "$name"; done; grep -l 'examples/[a-z]*\.[ps]' "$docs"/*.md)" ''
+    while read -r name; do [ -x "$prefix/bin/$name" ] || echo "$name"; done; grep -lE 'examples/|[^/](asl|facts|missing|page|refused|survey|unpack)\.(py|sh)' "$docs"/*.md)" ''
 # those of a quoted source are its own
 links() {
     (cd "$docs" && awk '/^```/ { code = !code; next } !code' ./*.md | grep -o '](\([^)]*\))' | sed 's/^](//; s/[#)].*//' | sort -u)

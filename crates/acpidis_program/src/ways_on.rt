@@ -1,5 +1,5 @@
 //! What a refusal leads to: the second line that it gets where standard error is a terminal.
-ghost use Rattle.std.specs.Prelude.{◌≡◌, true};
+ghost use Rattle.std.specs.Prelude.{◌≡◌, true, IfSome};
 
 use acpi_folder::Quoted;
 use std::io::ErrorKind;
@@ -24,8 +24,8 @@ pub enum WayOn<'a> {
     NotFolder(&'a str),
     /// An option that the command line doesn't have.
     AnyRun,
-    /// The script that shows what stands there.
-    Refused,
+    /// The script that shows what stands there, with the option for who gave it.
+    Refused { any_run: bool },
 }
 
 impl<'a> fmt::Display for WayOn<'a> {
@@ -37,14 +37,21 @@ impl<'a> fmt::Display for WayOn<'a> {
             }
             WayOn::NotFolder(file) => {
                 let file = Quoted(*file);
-                write!(f, "{file} is a file: put it into a folder, and name that")
+                write!(
+                    f,
+                    "{file} is a file: put it into a folder, and name that; acpidis-unpack takes acpidump's text",
+                )
             }
             WayOn::AnyRun => f.write_str(
                 "try --any-run, which takes what a run would declare; acpidis-refused FOLDER shows what stands there",
             ),
-            WayOn::Refused => f.write_str(
-                "acpidis-refused FOLDER shows what stands there, and ways on",
-            ),
+            WayOn::Refused { any_run } => {
+                let option = if *any_run { "--any-run " } else { "" };
+                write!(
+                    f,
+                    "acpidis-refused {option}FOLDER shows what stands there, and ways on",
+                )
+            }
         }
     }
 }
@@ -55,15 +62,15 @@ pub fn way_on<'a>(rt: &HostRuntime, said: &[u8], folder: &'a str, any_run: bool)
     ensures { any_run ≡ true → ¬ (result ≡ WayOn.AnyRun) }
 {
     let Ok(said) = str::from_utf8(said) else {
-        return WayOn::Refused;
+        return WayOn::Refused { any_run };
     };
     if said == NO_FOLDER {
-        return of_no_folder(rt, folder);
+        return of_no_folder(rt, folder).unwrap_or(WayOn::Refused { any_run });
     }
     // A table's name has no quote inside, and what stands behind it has none.
     match said.rsplit_once('"') {
         Some((_, words)) if !any_run && is_lifted(words) => WayOn::AnyRun,
-        _ => WayOn::Refused,
+        _ => WayOn::Refused { any_run },
     }
 }
 
@@ -71,12 +78,14 @@ fn is_lifted(words: &str) -> bool {
     LIFTED.iter().any(|lifted| words.starts_with(*lifted))
 }
 
-/// The way on where the folder can't be read.
-fn of_no_folder<'a>(rt: &HostRuntime, folder: &'a str) -> WayOn<'a> {
+/// What is wrong with a folder that can't be read, if that can be told.
+fn of_no_folder<'a>(rt: &HostRuntime, folder: &'a str) -> Option<WayOn<'a>>
+    ensures { IfSome result (λ way. ¬ (way ≡ WayOn.AnyRun)) }
+{
     match fs::metadata(rt, folder) {
-        Ok(found) if found.is_dir() => WayOn::Refused,
-        Ok(_) => WayOn::NotFolder(folder),
-        Err(fault) if fault.kind() == ErrorKind::NotFound => WayOn::NotThere(folder),
-        Err(_) => WayOn::Refused,
+        Ok(found) if found.is_dir() => None,
+        Ok(_) => Some(WayOn::NotFolder(folder)),
+        Err(fault) if fault.kind() == ErrorKind::NotFound => Some(WayOn::NotThere(folder)),
+        Err(_) => None,
     }
 }
