@@ -18,7 +18,7 @@ use Rattle.aml_load.specs.Walking.{at_site}
 use Rattle.aml_load.specs.declared.ears.Ears.{Ears}
 use Rattle.aml_load.specs.declared.ears.Head.{Head as KeptHead}
 use Rattle.aml_load.specs.declared.opening.Opened.{Opened}
-use Rattle.aml_load.specs.declared.uses.Site.{Site}
+use Rattle.aml_load.specs.declared.sites.Site.{Site}
 use denote.Ref.{Bor}
 use Rattle.aml_load.proofs.HearingLaws.{run_caught, run_enters, run_inside}
 

@@ -6,7 +6,7 @@ use Rattle.aml_namespace.specs.Known.{Known, Grows, StandsAt, path_at}
 use Rattle.aml_namespace.proofs.Numbers.{still_at}
 use Rattle.aml_space.specs.declared.below.Below.{Below}
 use Rattle.aml_space.specs.Below.{path_below}
-use Rattle.aml_load.specs.declared.uses.Site.{Site}
+use Rattle.aml_load.specs.declared.sites.Site.{Site}
 use Rattle.aml_load.specs.Walking.{at_site, KeepsPaths}
 
 module _ (old new : Known) (keeps : KeepsPaths old new) where

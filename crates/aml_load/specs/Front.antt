@@ -26,7 +26,7 @@ use Rattle.aml_load.specs.declared.ears.Ears.{Ears}
 use Rattle.aml_load.specs.declared.ears.Shape.{Shape}
 use Rattle.aml_load.specs.declared.ears.Shape.TheVariants as shapes
 use Rattle.aml_load.specs.declared.faults.LoadFault.{LoadFault}
-use Rattle.aml_load.specs.declared.uses.Site.{Site}
+use Rattle.aml_load.specs.declared.sites.Site.{Site}
 
 -- before a term at a site, of which nothing was told
 abbrev pub HasBegunAt : Ears → Site → Type 0

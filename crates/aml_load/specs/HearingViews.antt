@@ -17,7 +17,7 @@ use Rattle.aml_set.specs.Views.{methods_of_set}
 use Rattle.aml_code.specs.declared.rows.Role.{Role}
 use Rattle.aml_code.specs.declared.rows.Role.TheVariants as roles
 use Rattle.aml_load.specs.Loading.{Where, methods_of}
-use Rattle.aml_load.specs.declared.uses.Site.{Site}
+use Rattle.aml_load.specs.declared.sites.Site.{Site}
 use Rattle.aml_load.specs.declared.walking.Progress.{Progress}
 use Rattle.aml_load.specs.Tables.{Fails, table_at, tables_at}
 use Rattle.aml_load.specs.declared.faults.LoadFault.{LoadFault}

@@ -17,7 +17,7 @@ use Rattle.aml_parse.specs.declared.step.Behind.{Behind}
 use Rattle.aml_load.specs.declared.opening.Opened.{Opened}
 use Rattle.aml_load.specs.declared.run.Front.{Front as Told}
 use Rattle.aml_load.specs.declared.runner.Rest.{Rest}
-use Rattle.aml_load.specs.declared.uses.Site.{Site}
+use Rattle.aml_load.specs.declared.sites.Site.{Site}
 use Rattle.aml_load.specs.declared.walking.Progress.{Progress}
 
 -- what is behind a term of a span

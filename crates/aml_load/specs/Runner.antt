@@ -15,7 +15,7 @@ use Rattle.aml_parse.specs.Running.{SpanReader, has_terms}
 use Rattle.aml_parse.specs.Running.{run_span_at}
 use Rattle.aml_load.specs.declared.faults.LoadFault.{LoadFault}
 use Rattle.aml_load.specs.declared.faults.LoadFault.TheVariants as loads
-use Rattle.aml_load.specs.declared.uses.Site.{Site}
+use Rattle.aml_load.specs.declared.sites.Site.{Site}
 use Rattle.aml_load.specs.declared.runner.Rest.{Rest}
 use Rattle.aml_load.specs.declared.walking.Progress.{Progress}
 use Rattle.aml_code.specs.declared.rows.Role.{Role}

@@ -12,7 +12,7 @@ use Rattle.aml_space.specs.Below.{path_below}
 use Rattle.std.specs.Option.{option_map}
 use Rattle.aml_load.specs.declared.faults.LoadFault.{LoadFault}
 use Rattle.aml_load.specs.declared.faults.LoadFault.TheVariants as loads
-use Rattle.aml_load.specs.declared.uses.Site.{Site}
+use Rattle.aml_load.specs.declared.sites.Site.{Site}
 use Rattle.aml_load.specs.declared.walking.Progress.{Progress}
 use Rattle.aml_load.specs.Declaring.{Listed}
 use Rattle.aml_load.specs.Loading.{methods_of, Where, parent_of, sure_with}

@@ -14,8 +14,9 @@ ghost use Rattle.aml_load.specs.HearingViews.{IsNumbered, IsHeadNumbered, AreNum
 ghost use Rattle.aml_load.specs.Walking.{at_site};
 
 use crate::groups::{Group, add_asked};
+use crate::roles::{declares_by, is_argument, kinds_of};
+use crate::sites::Site;
 use crate::used::Asked;
-use crate::uses::{Site, declares_by, is_argument, kinds_of};
 use aml_code::{Field, Name, NoMemory, OpRow, Piece, Role, Seg, Sink, TailKind};
 use std::alloc::Global;
 

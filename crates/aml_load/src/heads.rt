@@ -10,7 +10,7 @@ ghost use Rattle.aml_load.specs.Opening.{tail_of};
 ghost use Rattle.aml_load.specs.Walking.{at_site};
 
 use crate::ears::{Head, Noted};
-use crate::uses::Site;
+use crate::sites::Site;
 use aml_code::{Field, NoMemory, Node, Part, Tail, listed_row};
 use std::alloc::Global;
 
@@ -25,7 +25,7 @@ fn noted(part: &Part) -> Noted<'_>
     }
 }
 
-/// The span of a method's body; nothing at the start of another term.
+/// The span of a method's body; of another term an empty one.
 pub fn span_of(term: &Node) -> (u32, u32)
     ensures { result ≡ unwrap_or (tail_of (node_view term.now)) (0, 0) }
 {

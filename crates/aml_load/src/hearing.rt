@@ -14,7 +14,7 @@ ghost use Rattle.aml_namespace.specs.Kinds.{kind_in};
 use crate::ears::{Around, Ears, Head};
 use crate::faults::LoadFault;
 use crate::roles::kind_of;
-use crate::uses::Site;
+use crate::sites::Site;
 use crate::walking::Progress;
 use aml_code::{NoMemory, Piece, Role, TailKind};
 use aml_space::{Kind, PathId};

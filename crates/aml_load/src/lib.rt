@@ -17,10 +17,10 @@ mod opening;
 mod roles;
 mod run;
 mod runner;
+mod sites;
 mod standing;
 mod standing_laws;
 mod used;
-mod uses;
 mod walking;
 
 pub use bodies::{read_body, read_span, tell_span};

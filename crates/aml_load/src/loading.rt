@@ -20,8 +20,8 @@ ghost use Rattle.aml_set.specs.Views.{codes_view, table_codes, table_dumps, tabl
 use crate::faults::LoadFault;
 use crate::groups::Group;
 use crate::hearer::hear_table;
+use crate::sites::Site;
 use crate::used::Asked;
-use crate::uses::Site;
 use crate::walking::Progress;
 use aml_code::{Locals, NoMemory, Node, Path, TableSink};
 use aml_names::{ArgumentCount, Arity, place};

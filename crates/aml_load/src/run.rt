@@ -18,7 +18,7 @@ use crate::ears::{Around, Ears};
 use crate::faults::LoadFault;
 use crate::opening::{Opened, tell_front};
 use crate::runner::{MOST_LEVELS, Rest, RunNames};
-use crate::uses::Site;
+use crate::sites::Site;
 use crate::walking::Progress;
 use aml_code::{Piece, Position, Sink, TailKind};
 use aml_parse::{Behind, StepAt};

@@ -19,7 +19,7 @@ ghost use Rattle.std.specs.Prelude.{IfSome, option_map};
 use crate::ears::{Head, Shape};
 use crate::faults::LoadFault;
 use crate::roles::kind_of;
-use crate::uses::Site;
+use crate::sites::Site;
 use crate::walking::Progress;
 use aml_code::{Arity, Locals, Name, NoMemory, Position, Role};
 use aml_space::{Below, BodyNames, Kind, PathId, SpaceFault};

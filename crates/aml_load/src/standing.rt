@@ -18,7 +18,7 @@ use crate::ears::Head;
 use crate::faults::LoadFault;
 use crate::heads::span_of;
 use crate::loading::first_progress;
-use crate::uses::Site;
+use crate::sites::Site;
 use crate::walking::Progress;
 use aml_code::{NoMemory, Node, Path, Tail};
 use aml_names::ArgumentCount;

@@ -20,7 +20,7 @@ ghost use Rattle.aml_load.specs.Hearing.{with_more};
 
 use crate::faults::LoadFault;
 use crate::groups::{Group, add_groups};
-use crate::uses::Site;
+use crate::sites::Site;
 use aml_code::{Name, NoMemory, Seg};
 use aml_set::Method;
 use aml_space::{Below, Kind, PathId, Space, SpaceFault};

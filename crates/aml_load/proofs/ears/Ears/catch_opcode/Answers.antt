@@ -6,7 +6,7 @@ use Rattle.aml_load.specs.Hearing.{Around, Heard, opening, opened_by, inside, in
 use Rattle.aml_load.specs.HearingViews.{around_view, heard_in, stack_view}
 use Rattle.aml_load.specs.declared.ears.Around.{Around as KeptAround}
 use Rattle.aml_load.specs.declared.ears.Around.TheVariants as kept
-use Rattle.aml_load.specs.declared.uses.Site.{Site}
+use Rattle.aml_load.specs.declared.sites.Site.{Site}
 use Rattle.aml_load.proofs.Steps.{goes_as, on_ok_by}
 use Rattle.aml_load.proofs.ears.Ears.catch_opcode.Goals as goal
 

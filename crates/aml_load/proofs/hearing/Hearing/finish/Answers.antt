@@ -7,7 +7,7 @@ use Rattle.aml_load.specs.HearingViews.{head_view, finish_by, Entered}
 use Rattle.aml_load.specs.Walking.{KeepsPaths}
 use Rattle.aml_load.specs.declared.ears.Head.{Head}
 use Rattle.aml_load.specs.declared.faults.LoadFault.{LoadFault}
-use Rattle.aml_load.specs.declared.uses.Site.{Site}
+use Rattle.aml_load.specs.declared.sites.Site.{Site}
 use Rattle.aml_load.proofs.Stacks.{same_stack, still_stack}
 use Rattle.aml_load.proofs.hearing.Hearing.finish.Goals as goal
 

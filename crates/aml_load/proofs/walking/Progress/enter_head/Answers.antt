@@ -9,7 +9,7 @@ use Rattle.aml_namespace.specs.Kinds.{Kind}
 use Rattle.aml_load.specs.Loading.{Where}
 use Rattle.aml_load.specs.Walking.{Holds}
 use Rattle.aml_load.specs.declared.faults.LoadFault.{LoadFault}
-use Rattle.aml_load.specs.declared.uses.Site.{Site}
+use Rattle.aml_load.specs.declared.sites.Site.{Site}
 use Rattle.aml_load.specs.declared.walking.Progress.{Progress}
 use Rattle.aml_load.proofs.walking.Progress.enter_head.Goals as goal
 

@@ -11,7 +11,7 @@ use Rattle.aml_load.specs.Runner.{IsFlat, front_at}
 use Rattle.aml_load.specs.Running.{Front}
 use Rattle.aml_load.specs.Walking.{Holds, at_site}
 use Rattle.aml_load.specs.declared.faults.LoadFault.{LoadFault}
-use Rattle.aml_load.specs.declared.uses.Site.{Site}
+use Rattle.aml_load.specs.declared.sites.Site.{Site}
 use Rattle.aml_load.specs.declared.walking.Progress.{Progress}
 use Rattle.aml_load.proofs.Inside.{same_site, still_among}
 use Rattle.aml_load.proofs.walking.Progress.enter_heard_flat.Goals as goal
