@@ -7,12 +7,12 @@
 
 LISTING is what acpidis wrote to standard output, FILE what it wrote to standard error. TEXTS is a folder of many machines:
 each folder below it with a file `text` is one, and `errors` beside it is its standard error (docs/many.md); so is each
-file in TEXTS itself. FACTS is an SQLite file, which is made anew; with --json each fact is a line of its own on standard
-output. With --dumps each table has the sum of its dump, from FOLDER or the folder of the same name below it. docs/facts.md
-has the tables, and what to ask.
+file in TEXTS itself. FACTS is an SQLite file, which may take the place of older facts, and of nothing else; with --json each
+fact is a line of its own on standard output. With --dumps each table has the sum of its dump, from FOLDER or the folder of
+the same name below it. docs/facts.md has the tables, and what to ask.
 
 Status 0 is that all machines have facts, 3 that one at least has none: its row says why. 1 is a text that is no listing,
-and 2 a command line or an output that is at fault.
+and 2 a command line or an output that is at fault: with both, older facts stay.
 """
 
 from __future__ import annotations
@@ -28,6 +28,7 @@ import re
 import sqlite3
 import stat
 import sys
+import tempfile
 from collections import deque
 from collections.abc import Callable, Iterator
 from concurrent.futures.process import BrokenProcessPool
@@ -133,13 +134,21 @@ def facts_of(text: bytes, errors: bytes) -> tuple[str, dict[str, list[list]]]:
     return "", dict(rows)
 
 
+def has_facts(file: str) -> bool:
+    """Whether a file is one that this script made, so that other facts may take its place."""
+    where = f"{pathlib.Path(file).absolute().as_uri()}?mode=ro"
+    with contextlib.suppress(sqlite3.Error), contextlib.closing(sqlite3.connect(where, uri=True)) as there:
+        return bool(there.execute("SELECT shift, sum, dump_sum FROM machine, code, acpi_table LIMIT 0"))
+    return False
+
+
 class Database:
     """An SQLite file, which appears when it is whole."""
 
     def __init__(self, file: str):
-        self.file, self.part = file, f"{file}.part"
-        pathlib.Path(self.part).unlink(missing_ok=True)
-        self.connection = sqlite3.connect(self.part, isolation_level=None)
+        self.file = file
+        self.room = tempfile.TemporaryDirectory(prefix=".part", dir=os.path.dirname(os.path.abspath(file)))
+        self.connection = sqlite3.connect(f"{self.room.name}/facts", isolation_level=None)
         self.connection.executescript(f"PRAGMA journal_mode = OFF; PRAGMA synchronous = OFF; BEGIN; {SCHEMA}")
 
     def add(self, table: str, rows: list[list]) -> None:
@@ -150,7 +159,8 @@ class Database:
         self.connection.execute("COMMIT")
         self.connection.executescript(f"{INDEXES} ANALYZE;")
         self.connection.close()
-        os.replace(self.part, self.file)
+        os.replace(f"{self.room.name}/facts", self.file)
+        self.room.cleanup()
 
 
 class Lines:
@@ -167,13 +177,14 @@ class Lines:
 
 class Facts:
     """Numbers the rows of all machines, and hands them on. Code that machines share is kept once, with the lines of the first
-    one's text: `codes` has its row, or why there is none, and how many lines stand above it there, by its sum."""
+    one's text: `codes` has its row, or why there is none, and how many lines stand above it there, by its sum. `lacking` are
+    the machines without facts, each with its fault."""
 
     def __init__(self, sink: Database | Lines):
         self.sink = sink
         self.bases = dict.fromkeys(COLUMNS, 0)
         self.codes: dict[str, tuple[int | None, str, int]] = {}
-        self.lacking = 0
+        self.lacking: list[tuple[str, str]] = []
 
     def add_code(self, code_sum: str, above: int, fault: str, rows: dict[str, list[list]]) -> None:
         numbered = {table: shifted(rows.get(table, []), table, self.bases) for table in ("code", *OF_CODE)} if rows else {}
@@ -182,8 +193,7 @@ class Facts:
             self.bases[table] += len(found)
         self.codes[code_sum] = (self.bases["code"] if rows else None), fault, above
 
-    def add_machine(self, machine: Machine, code_sum: str) -> str:
-        """Answers why the machine has no facts."""
+    def add_machine(self, machine: Machine, code_sum: str) -> None:
         code, fault, above = self.codes[code_sum] if code_sum else (None, machine.fault, 0)
         shift = machine.above - above if code else None
         self.bases["machine"] += 1
@@ -194,8 +204,7 @@ class Facts:
         self.sink.add("record", [[place, before + table, *row] for place, (table, *row) in records])
         self.bases["acpi_table"] += len(machine.tables)
         self.bases["record"] += len(machine.records)
-        self.lacking += bool(fault)
-        return fault
+        self.lacking += [(machine.name, fault)] if fault else []
 
 
 def machines_of(asked: argparse.Namespace) -> Iterator[Machine]:
@@ -238,11 +247,20 @@ class Processes:
             return self.pool.submit(make, *words)
 
 
-def add_all(facts: Facts, machines: Iterator[Machine], jobs: int) -> str:
-    """Adds the facts of all machines in their order, and answers why the last one that has none has none."""
+def add_all(facts: Facts, machines: Iterator[Machine], jobs: int) -> None:
+    """Adds the facts of all machines in their order."""
+    progress, processes = command.Progress("machine"), Processes(jobs)
     waiting: deque = deque()
-    fault, progress, processes = "", command.Progress("machine"), Processes(jobs)
     seen: set[str] = set()
+
+    def add_but(last: int) -> None:
+        while len(waiting) > last:
+            machine, code_sum, future = waiting.popleft()
+            if future:
+                facts.add_code(code_sum, machine.above, *outcome(machine, future))
+            facts.add_machine(machine, code_sum)
+            progress.step()
+
     for machine in machines:
         code_sum = "" if machine.fault else sum_of(machine.text, machine.errors)
         future = None
@@ -251,21 +269,10 @@ def add_all(facts: Facts, machines: Iterator[Machine], jobs: int) -> str:
             future = processes.submit(facts_of, machine.text, machine.errors)
         machine.text = machine.errors = b""
         waiting.append((machine, code_sum, future))
-        while len(waiting) > WAITING * jobs:
-            fault = add_next(facts, *waiting.popleft()) or fault
-            progress.step()
-    while waiting:
-        fault = add_next(facts, *waiting.popleft()) or fault
-        progress.step()
+        add_but(WAITING * jobs)
+    add_but(0)
     processes.pool.shutdown()
     progress.end()
-    return fault
-
-
-def add_next(facts: Facts, machine: Machine, code_sum: str, future: concurrent.futures.Future | None) -> str:
-    if future:
-        facts.add_code(code_sum, machine.above, *outcome(machine, future))
-    return facts.add_machine(machine, code_sum)
 
 
 def outcome(machine: Machine, future: concurrent.futures.Future) -> tuple[str, dict[str, list[list]]]:
@@ -302,22 +309,23 @@ def arguments() -> argparse.Namespace:
 
 def main() -> None:
     asked = arguments()
+    is_one = not os.path.isdir(asked.listing)
+    if asked.facts and os.path.lexists(asked.facts) and not (os.path.isfile(asked.facts) and has_facts(asked.facts)):
+        command.leave(f"facts: {asked.facts!r} is there, and has no facts: name another file")
     try:
         facts = Facts(Lines() if asked.json else Database(asked.facts))
-        fault = add_all(facts, machines_of(asked), asked.jobs if os.path.isdir(asked.listing) else 1)
+        add_all(facts, machines_of(asked), 1 if is_one else asked.jobs)
+        if not facts.bases["machine"]:
+            sys.exit(f"facts: no listing is in {asked.listing!r}: a file `text` is one, in a folder of each machine")
+        name, fault = facts.lacking[-1] if facts.lacking else ("", "")
+        if fault and is_one:
+            sys.exit(f"facts: {fault}" if fault.startswith("cannot read ") else f"facts: {asked.listing!r}: {fault}")
         facts.sink.close()
     except sqlite3.Error as error:
-        print(f"facts: cannot write {asked.facts!r}: {error}", file=sys.stderr)
-        sys.exit(command.AT_FAULT)
-    finally:
-        if asked.facts:
-            pathlib.Path(f"{asked.facts}.part").unlink(missing_ok=True)
-    if not facts.bases["machine"]:
-        sys.exit(f"facts: no listing is in {asked.listing!r}: a file `text` is one, in a folder of each machine")
-    if facts.lacking and not os.path.isdir(asked.listing):
-        sys.exit(f"facts: {asked.listing!r}: {fault}")
-    if facts.lacking:
-        print(f"facts: {facts.lacking} of {facts.bases['machine']} machines without facts; the last: {fault}", file=sys.stderr)
+        command.leave(f"facts: cannot write {asked.facts!r}: {error}")
+    if fault:
+        said_of = f"{len(facts.lacking)} of {facts.bases['machine']} machines without facts; the last, {name}: {fault}"
+        print(f"facts: {said_of}; all: SELECT name, fault FROM machine WHERE fault IS NOT NULL", file=sys.stderr)
         sys.exit(INCOMPLETE)
 
 

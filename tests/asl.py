@@ -429,16 +429,17 @@ def check_chain(checks):
 
 
 def check_show(checks):
-    """What is declared at a path, or at paths that end so."""
-    place = written(checks.room / "show", VERSIONS["first"])
+    """What is declared at a path, or at paths that end so, or is like it where nothing is."""
+    place = written(checks.room / "show", {**VERSIONS["first"], "ssdt2.dat": table(b"SSDT", SETS["externals"][0])})
     text = checks.text("show.text", listed(place))
     for path, wanted in parts_in("shown.txt")[1:]:
-        checks.says(f"show {path}", [SHOW, text, path], 0, "", wanted + "\n")
+        is_there = wanted.startswith("DefinitionBlock")
+        said, shown = ("", wanted + "\n") if is_there else (f"show: {str(text)!r} {wanted}\n", "")
+        checks.says(f"show {path}", [SHOW, text, path], int(not is_there), said, shown)
     heads = checks.run(SHOW, text, "_hid").stdout.count("Name (_HID, ")
     checks.is_same("each _HID", heads, text.read_text().count("Name (_HID, "))
     whole = checks.run(SHOW, text, "EC0").stdout
     checks.is_so("a device whole", whole.count("{") == whole.count("}") + 3 and "Method (_Q13" in whole)
-    checks.says("no such path", [SHOW, text, "\\SMI_"], 1, f"show: {str(text)!r} declares no such path\n")
     checks.is_same("no path", checks.run(SHOW, text, "1").returncode, 2)
     ran = checks.run(SHOW, place / "dsdt.dat", "SMI")
     checks.is_same("no listing", (ran.returncode, ran.stderr.count("\n")), (1, 1))

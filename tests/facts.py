@@ -123,7 +123,9 @@ def check_many(checks: Tally, room: pathlib.Path) -> None:
     written(texts / "cut", {"text": b"".join(lines[:20])})
     found = run("--jobs", 2, "--dumps", room / "sets", texts, room / "facts")
     checks.is_same("the status of many machines", (found.returncode, found.stdout), (3, ""))
-    checks.is_same("what is said of them", found.stderr.partition(";")[0], "facts: 2 of 5 machines without facts")
+    said = 'facts: 2 of 5 machines without facts; the last, none: refused: table "notes": Short; '
+    said += "all: SELECT name, fault FROM machine WHERE fault IS NOT NULL\n"
+    checks.is_same("what is said of them", found.stderr, said)
     sql = "SELECT dump_sum FROM acpi_table WHERE signature = 'DMAR' AND dump_sum IS NOT NULL"
     sums = {row[0] for row in rows_of(room / "facts", sql)}
     wanted = {hashlib.sha256(files["dmar.dat"]).hexdigest() for files in (*list(sets.values())[:2], VERSIONS["second"])}
@@ -193,7 +195,6 @@ def check_fleet(checks: Tally, room: pathlib.Path) -> None:
     checks.is_same("those without facts", machines, wanted)
     names = [row[0] for row in rows_of(room / "fleet.facts", "SELECT name FROM machine WHERE fault IS NULL ORDER BY name")]
     checks.is_same("those with facts", names, [f"good{number:02d}" for number in range(12)] + ["odd\\xff"])
-    checks.is_same("no part is left", (room / "fleet.facts.part").exists(), False)
 
 
 def check_questions(checks: Tally, room: pathlib.Path) -> None:
@@ -215,20 +216,28 @@ def columns_text() -> Iterator[str]:
     """The tables with their columns, and behind those that name a row the table that it is of."""
     for table, columns in COLUMNS.items():
         targets = dict(REFERENCES[table])
-        shown = (column + (f" > {targets[place]}" if place in targets else "") for place, column in enumerate(columns))
+        shown = (column + (f">{targets[place]}" if place in targets else "") for place, column in enumerate(columns))
         yield f"{table:<12}{', '.join(shown)}"
 
 
 def check_words(checks: Tally, room: pathlib.Path) -> None:
-    """What the command line refuses, and outputs that take nothing."""
-    text = room / "texts/rack/a/text"
-    out = room / "out"
+    """What the command line refuses, and outputs that take nothing. Files without facts stay, and facts where a run fails."""
+    text, notes, out, other = (room / name for name in ("texts/rack/a/text", "sets/none/notes", "out", "other"))
+    out.write_bytes((room / "facts").read_bytes())
+    with contextlib.closing(sqlite3.connect(other)) as connection:
+        connection.execute("CREATE TABLE machine (name TEXT)")
+    kept = {file: file.read_bytes() for file in (text, notes, out, other)}
     for words in ([text], ["--json", text, out], ["--jobs", "0", text, out], []):
         checks.is_same(f"status of {words}", run(*words).returncode, 2)
-    others = [room / "sets/none/notes", out], [room / "nowhere", out], ["--errors", text, text, out]
-    for status, words in [*((1, words) for words in others), (2, [text, "/dev/full/facts"])]:
+    others = [notes, out], [room / "nowhere", out], ["--errors", text, text, out], [notes, room / "new"]
+    taken = [[text, file] for file in (text, notes, other, room, "/dev/full/facts")]
+    for status, words in [*((1, words) for words in others), *((2, words) for words in taken)]:
         found = run(*words)
         checks.is_same(f"{words}: {found.stderr}", (found.returncode, found.stderr.count("\n")), (status, 1))
+    checks.is_same("what stays", {file: file.read_bytes() for file in kept}, kept)
+    checks.is_same("no part is left", [file for file in room.iterdir() if ".part" in file.name or file.name == "new"], [])
+    checks.is_same("one that isn't there", run(room / "nowhere", out).stderr.count("nowhere"), 1)
+    checks.is_same("facts in place of facts", (run(text, out).returncode, out.read_bytes() == kept[out]), (0, False))
     written(room / "listed/none/dumps", {"dsdt.dat": b"DSDT"})
     found = run(room / "listed/none", room / "none")
     said = f"facts: no listing is in {str(room / 'listed/none')!r}: a file `text` is one, in a folder of each machine\n"

@@ -82,9 +82,14 @@ def macro_text(form: "re.Match[str]") -> str:
     arguments = [one.strip() for one in form[2].split(",")]
     listed = [str(int(one, 0)) for one in (form[3] or "").replace(",", " ").split()]
     macro = Macro(form[1].removesuffix("V2"), arguments, listed, [KEYWORDS[one] for one in arguments if one in KEYWORDS])
-    source = next((one.strip('"') for one in arguments if one[:1] == '"' and one != '""'), "").replace("\\\\", "\\")
-    shown = TEXTS.get(macro.kind, spaced)(macro)
-    return " ".join(filter(None, [*shown, source and f"by {source}"]))
+    place = next((at for at, one in enumerate(arguments) if one[:1] == '"' and one != '""'), None)
+    shown = list(TEXTS.get(macro.kind, spaced)(macro))
+    if place is not None:
+        # The index stands behind the source, or in front of it.
+        index = int(arguments[place + (1 if re.match("Gpio|.*Bus$", macro.kind) else -1)], 16)
+        source = arguments[place].strip('"').replace("\\\\", "\\")
+        shown += [f"by {source}", f"index {index}" if index else ""]
+    return " ".join(filter(None, shown))
 
 
 def io(macro: Macro) -> tuple:
@@ -147,7 +152,7 @@ def gpio(macro: Macro) -> tuple:
     return macro.kind, macro.lines, *mode, *pull, *more
 
 
-SPI_ORDER = ("3 wires", "select high", "second phase", "polarity high")
+SPI_ORDER = ("device initiated", "3 wires", "select high", "second phase", "polarity high", "shared")
 TEXTS = {
     "IRQ": lambda it: ("IRQ", it.lines, *it.words),
     "IRQNoFlags": lambda it: ("IRQ", it.lines, "edge"),
@@ -158,7 +163,7 @@ TEXTS = {
     **dict.fromkeys(("VendorShort", "VendorLong"), lambda it: (it.kind, f"{len(it.listed)} bytes")),
     "Interrupt": lambda it: (it.kind, it.lines, "producer" if "ResourceProducer" in it.arguments else "", *it.words),
     "I2cSerialBus": lambda it: (f"{it.kind} 0x{it.numbers[0]:04X} {it.numbers[1]} Hz", *it.words),
-    "UartSerialBus": lambda it: (it.kind, f"{it.numbers[0]} baud"),
+    "UartSerialBus": lambda it: (it.kind, f"{it.numbers[0]} baud", *it.words),
     "IO": io, "FixedIO": fixed, "Memory32Fixed": fixed, "Memory24": memory, "Memory32": memory, "Register": register,
     "GpioInt": gpio, "GpioIo": gpio,
     "SpiSerialBus": lambda it: (

@@ -9,7 +9,7 @@ from collections.abc import Iterator
 
 from acpidis_tools.comparison import text_of, texts_of
 from acpidis_tools.decoding import Decoder, flag_words, hardware_name
-from acpidis_tools.errors import Fault
+from acpidis_tools.errors import Fault, name_at
 from acpidis_tools.listing import HEADER, Block, Dump, Line, Listing, Path, path_of, path_text
 from acpidis_tools.names import FIELD_LISTS, PREDEFINED, Meaning, Names, Sort, name_of
 from acpidis_tools.resources import Descriptor
@@ -37,8 +37,9 @@ STATEMENTS = {
     "Fatal": (None, 1),
 }  # fmt: skip
 LONGEST_STATEMENT = 1_000
-SEGMENT, SPEED = re.compile(r"[A-Z_][A-Z0-9_]{0,3}"), re.compile(r"([0-9]+) (?:Hz|baud)")
+SOURCE, SPEED = re.compile(r"(\\|\^*)([A-Z_][A-Z0-9_]{0,3}(?:\.[A-Z_][A-Z0-9_]{0,3})*)"), re.compile(r"([0-9]+) (?:Hz|baud)")
 INTERRUPTS = ("IRQ", "IRQNoFlags", "Interrupt", "GpioInt")
+CONSTANT_WORD = re.compile(r'"|0x|(?:Zero|Ones?|Revision)$')
 TOKEN = re.compile(r'"[^"]*"|[(){},]|[^"(){},]+')
 
 
@@ -145,10 +146,9 @@ class Collector:
     # ---- names
 
     def add_names(self) -> None:
-        files = {
-            line.number: block.file[1:-1] for block in self.listing.blocks for line in block.lines
-            if line.declared is not None
-        }
+        lines = [(line, block.file[1:-1]) for block in self.listing.blocks for line in block.lines]
+        files = {line.number: file for line, file in lines if line.declared is not None}
+        returns = {line.number: line for line, _ in lines if line.term == "Return" and line.method}
         texts = {path: "\n".join(text_of(said)).encode() for path, said in texts_of(self.names, self.listing).items()}
         sums = {path: hashlib.sha256(text).hexdigest()[:16] for path, text in texts.items()}
         targets = []
@@ -157,9 +157,11 @@ class Collector:
             line = self.names.lines[row.path]
             count = int(more) if kind == "Method" else None
             stands = "maybe" if row.is_maybe else "always"
-            # The number or the text that a Name has
-            term = self.decoder.terms(line)[0].argument(1) if kind == "Name" else None
-            value = term.word if term and not term.arguments and term.braced is None else None
+            # What a Name has, or a method returns that does nothing else
+            only = returns.get(line.number + 1) if kind == "Method" and line.end == line.number + 2 else None
+            term = self.decoder.argument(line, 1) if kind == "Name" else self.decoder.argument(only, 0) if only else None
+            is_value = term and CONSTANT_WORD.match(term.word) and not term.arguments and term.braced is None
+            value = term.word if term and is_value else None
             self.add_name(row.path, kind, count, None, stands, row.times, value, sums[row.path], files[line.number], line.number)
             if kind == "Alias":
                 targets.append((row.path, path_of(more)))
@@ -202,7 +204,7 @@ class Collector:
         path = name_of(line.words[1]).placed(line.scope) or ()
         return self.add(
             "method", self.ids[path], number_in(count), int(serialized == "Serialized"), number_in(level), int(is_raw),
-            str(fault) if fault else None, self.file, line.number,
+            str(fault) if fault else None, name_at(fault, body), self.file, line.number,
         )
 
     def add_region(self, line: Line) -> None:
@@ -351,9 +353,19 @@ class Collector:
         for one, patches in [pair for it in templates for pair in zip(it.descriptors, it.patches)]:
             self.add(
                 "resource", device, object_path, one.kind, small(one.first), small(one.last), small(one.length),
-                ", ".join(map(str, one.lines)) or None, *wires_of(one), one.text, ", ".join(dict.fromkeys(patches)) or None,
-                self.file, line.number,
+                ", ".join(map(str, one.lines)) or None, self.controller(one.source, line.scope), *wires_of(one), one.text,
+                ", ".join(dict.fromkeys(patches)) or None, self.file, line.number,
             )
+
+    def controller(self, source: str, scope: Path) -> str | None:
+        """The path that the name of a source means, which counts from the device around (6.4.3.8)."""
+        form = SOURCE.fullmatch(source)
+        if not form:
+            return source or None
+        name = name_of(form[1] + ".".join(part.ljust(4, "_") for part in form[2].split(".")))
+        device = self.nearest(scope, DEVICES)
+        paths = self.names.find(device, name) or name.candidates(device)[-1:]
+        return path_text(paths[0]) if paths else source
 
     def add_identifiers(self, line: Line) -> None:
         for text in self.decoder.identifiers(line):
@@ -362,15 +374,13 @@ class Collector:
             self.add("identifier", device, name, text, number, DEVICE_NAMES.get(text), self.file, line.number)
 
 
-def wires_of(one: Descriptor) -> tuple[str | None, int | None, str | None, str | None]:
-    """The path of the controller, the speed in Hz or baud, and of an interrupt its trigger and polarity."""
-    parts = one.source.removeprefix("\\").split(".")
-    path = "\\" + ".".join(part.ljust(4, "_") for part in parts) if all(map(SEGMENT.fullmatch, parts)) else one.source
+def wires_of(one: Descriptor) -> tuple[int | None, str | None, str | None]:
+    """The speed in Hz or baud, and of an interrupt its trigger and polarity."""
     speed = next((int(form[1]) for form in map(SPEED.fullmatch, one.words) if form), None)
     if one.kind not in INTERRUPTS:
-        return path or None, speed, None, None
+        return speed, None, None
     polarity = next((word for word in one.words if word in ("low", "both") or word.startswith("polarity ")), "high")
-    return path or None, speed, "edge" if "edge" in one.words else "level", polarity
+    return speed, "edge" if "edge" in one.words else "level", polarity
 
 
 def number_in(text: str) -> int:

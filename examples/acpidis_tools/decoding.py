@@ -195,7 +195,9 @@ class Decoder:
         if name == "_STA" or line.term == "Return" and line.method and line.method[-1] == "_STA":
             value = self.argument(line, 1 if name else 0) if line.term != "Method" else None
             if value and value.number is not None:
-                return [status_words(value.number)]
+                path = self.meanings(line)[1].path if name else line.method
+                of = self.names.lines.get(path[:-1])
+                return [status_words(value.number, of is not None and of.term == "PowerResource")]
             return [PREDEFINED_NAMES[name]] if name else []
         form = EVENT.fullmatch(name)
         if form and line.term == "Method":

@@ -48,6 +48,14 @@ def read_errors(text: bytes, listing: Listing) -> dict[int, Fault]:
     return faults
 
 
+def name_at(fault: Fault | None, body: Line) -> str | None:
+    """The name that a raw body waits for, by its fault."""
+    if not fault or fault.word != "UnknownName" or fault.at is None:
+        return None
+    name = name_in(bytes.fromhex("".join(body.pieces[2:]).strip(" {}").replace(",", ""))[fault.at :])
+    return str(name) if name else None
+
+
 def name_in(code: bytes) -> aml.Name | None:
     """The name that stands at the front of the bytes (docs/names.md), and nothing where none does."""
     try:

@@ -14,14 +14,14 @@ END = 0x0F
 
 # The fields of a descriptor, each with what it is where nothing says it
 FIELDS = {
-    "first": None, "last": None, "length": None, "digits": 8, "lines": (), "words": (), "source": "", "at": 0,
-    "size": 0,
+    "first": None, "last": None, "length": None, "digits": 8, "lines": (), "words": (), "source": "", "index": 0,
+    "at": 0, "size": 0,
 }  # fmt: skip
 
 
 class Descriptor(namedtuple("Descriptor", ["kind", *FIELDS], defaults=FIELDS.values())):
     """A descriptor: its name in ASL, its addresses, with how many digits these have, its lines (interrupts, channels or
-    pins), what else it says, the name of the device that it goes through, and where its bytes are."""
+    pins), what else it says, the name of the device that it goes through, with its index there, and where its bytes are."""
 
     @property
     def text(self) -> str:
@@ -33,7 +33,8 @@ class Descriptor(namedtuple("Descriptor", ["kind", *FIELDS], defaults=FIELDS.val
             parts.append(f"0x{self.first:0{self.digits}X}{last}")
         if self.length is not None:
             parts.append(f"+0x{self.length:X}")
-        return " ".join([*parts, *self.words, *([f"by {self.source}"] if self.source else [])])
+        parts += [*self.words, *([f"by {self.source}"] if self.source else [])]
+        return " ".join([*parts, *([f"index {self.index}"] if self.index else [])])
 
 
 class Bytes:
@@ -66,6 +67,12 @@ def set_bits(number: int) -> tuple[int, ...]:
 def said(kind: str, *words: object, **more: object) -> Descriptor:
     """A descriptor with those of the words that are there."""
     return Descriptor(kind, words=tuple(filter(None, words)), **more)
+
+
+def source_at(data: Bytes, at: int, index: int) -> dict:
+    """The source whose name is at an offset, if it has one, and its index, which is at another."""
+    source = data.text(at)
+    return {"source": source, "index": data.number(index, 1)} if source else {}
 
 
 # ---- small descriptors (6.4.2)
@@ -150,8 +157,8 @@ def address_space(size: str, width: int, data: Bytes) -> Descriptor:
         *specific_words(kind, data.number(5, 1)), granularity and f"granularity 0x{granularity:X}",
         translation and f"translation 0x{translation:X}",
     )  # fmt: skip
-    source = data.text(behind) if size != "Extended" else ""
-    return said(size + name, *words, first=first, last=last, length=length, digits=2 * width, source=source)
+    source = source_at(data, behind, behind - 1) if size != "Extended" else {}
+    return said(size + name, *words, first=first, last=last, length=length, digits=2 * width, **source)
 
 
 def specific_words(kind: int, kept: int) -> tuple:
@@ -167,12 +174,15 @@ def specific_words(kind: int, kept: int) -> tuple:
 
 PULLS = ("", "pull up", "pull down", "no pull")
 RESTRICTIONS = ("", "input", "output", "preserved")
+STOPS, FLOWS = ("no stop bits", "", "1.5 stop bits", "2 stop bits"), ("", "hardware flow control", "XON/XOFF", "flow control 3")
+PARITIES = ("", "even parity", "odd parity", "mark parity", "space parity")
 
 
 def interrupt(data: Bytes) -> Descriptor:
     kept, count = data.number(3, 1), data.number(4, 1)
     words = not kept & 1 and "producer", *interrupt_words(kept >> 1 & 1, kept >> 2 & 1, kept >> 3 & 3)
-    return said("Interrupt", *words, lines=data.numbers(5, 4, count), source=data.text(5 + 4 * count + 1))
+    behind = 5 + 4 * count
+    return said("Interrupt", *words, lines=data.numbers(5, 4, count), **source_at(data, behind + 1, behind))
 
 
 def gpio(data: Bytes) -> Descriptor:
@@ -187,20 +197,23 @@ def gpio(data: Bytes) -> Descriptor:
 
 
 def with_pins(kind: str, data: Bytes, words: tuple, places: tuple[int, int], source: int) -> Descriptor:
-    """A descriptor whose pins, of 2 bytes each, stand between two offsets, and its source at another one."""
+    """A descriptor whose pins, of 2 bytes each, stand between two offsets, and its source, if it has one, at another one."""
     first, behind = (data.number(at, 2) for at in places)
-    device = data.text(data.number(source, 2))
-    return said(kind, *words, lines=data.numbers(first, 2, max(0, behind - first) // 2), source=device)
+    more = source_at(data, data.number(source, 2), source - 1) if source else {}
+    return said(kind, *words, lines=data.numbers(first, 2, max(0, behind - first) // 2), **more)
 
 
 def shared(data: Bytes) -> str:
     return "shared" if data.bits(4, 0) else ""
 
 
+def label(data: Bytes, at: int) -> str:
+    return f"label {data.text(data.number(at, 2))}"
+
+
 def grouped(kind: str, data: Bytes, words: tuple, source: int) -> Descriptor:
     """A descriptor of a group of pins, whose label has its offset behind that of the source."""
-    label = f"label {data.text(data.number(source + 2, 2))}"
-    return said(kind, *words, label, source=data.text(data.number(source, 2)))
+    return said(kind, *words, label(data, source + 2), **source_at(data, data.number(source, 2), source - 1))
 
 
 def configured(data: Bytes) -> tuple[str, str]:
@@ -208,19 +221,23 @@ def configured(data: Bytes) -> tuple[str, str]:
 
 
 def serial_bus(data: Bytes) -> Descriptor:
-    kind, kept, source = data.number(5, 1), data.number(7, 2), data.text(12 + data.number(10, 2))
+    kind, kept, source = data.number(5, 1), data.number(7, 2), source_at(data, 12 + data.number(10, 2), 4)
+    mode, sharing = data.bits(6, 0) and "device initiated", data.bits(6, 2) and "shared"
     if kind == 1:
-        words = f"{data.number(12, 4)} Hz", kept & 1 and "10-bit address"
-        return said("I2cSerialBus", *words, first=data.number(16, 2), digits=4, source=source)
+        words = f"{data.number(12, 4)} Hz", mode, kept & 1 and "10-bit address", sharing
+        return said("I2cSerialBus", *words, first=data.number(16, 2), digits=4, **source)
     if kind == 2:
-        words = f"{data.number(12, 4)} Hz", f"{data.number(16, 1)} bits"
+        words = f"{data.number(12, 4)} Hz", f"{data.number(16, 1)} bits", mode
         words += kept & 1 and "3 wires", kept & 2 and "select high"
-        words += data.number(17, 1) and "second phase", data.number(18, 1) and "polarity high"
-        return said("SpiSerialBus", *words, first=data.number(19, 2), digits=4, source=source)
+        words += data.number(17, 1) and "second phase", data.number(18, 1) and "polarity high", sharing
+        return said("SpiSerialBus", *words, first=data.number(19, 2), digits=4, **source)
     if kind == 3:
-        return said("UartSerialBus", f"{data.number(12, 4)} baud", source=source)
+        bits, parity = data.bits(7, 4, 3), data.number(20, 1)
+        words = f"{data.number(12, 4)} baud", mode, bits != 3 and f"{5 + bits} bits", STOPS[kept >> 2 & 3]
+        words += kept >> 7 & 1 and "big endian", PARITIES[parity] if parity < len(PARITIES) else f"parity {parity}"
+        return said("UartSerialBus", *words, FLOWS[kept & 3], sharing, **source)
     if kind == 4:
-        return Descriptor("Csi2Bus", source=source)
+        return said("Csi2Bus", mode, sharing, **source)
     raise ValueError("no such bus")
 
 
@@ -245,7 +262,7 @@ LARGES = {
     0x12: (17, ANY, lambda it: grouped("PinGroupConfig", it, configured(it), 12)),
     0x04: (0, ANY, lambda it: said("VendorLong", f"{len(it.data) - LARGE} bytes")),
     0x06: (9, 9, lambda it: said("Memory32Fixed", read_only(it), first=it.number(4, 4), length=it.number(8, 4))),
-    0x10: (11, ANY, lambda it: with_pins("PinGroup", it, (), (6, 8), 8)),
+    0x10: (11, ANY, lambda it: with_pins("PinGroup", it, (label(it, 8),), (6, 8), 0)),
     0x13: (9, ANY, lambda it: said("ClockInput", f"{it.number(8, 4)}/{it.number(6, 2)}")),
 }  # fmt: skip
 

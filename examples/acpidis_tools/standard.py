@@ -45,12 +45,13 @@ def named(words: tuple, number: int) -> str:
     return words[number] if number < len(words) else f"0x{number:X}"
 
 
-def status_words(number: int) -> str:
-    """What _STA says with a number."""
-    if not number & 0b1001:
-        return "not present"
-    words = [word if number >> bit & 1 else f"not {word}" for bit, word in enumerate(WORDS["STATUS_BITS"][:4])]
-    return ", ".join(words)
+def status_words(number: int, is_power: bool = False) -> str:
+    """What _STA says with a number: of a device, where the last bit counts of a battery alone, or of a power resource."""
+    if is_power:
+        return named(WORDS["POWER"], number)
+    *bits, battery = WORDS["STATUS_BITS"]
+    words = [word if number >> bit & 1 else f"not {word}" for bit, word in enumerate(bits if number & 0b1001 else bits[:1])]
+    return ", ".join(words + [battery] * (number >> len(bits) & 1))
 
 
 def eisa_id(number: str) -> str:

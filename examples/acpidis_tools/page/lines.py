@@ -7,7 +7,7 @@ import re
 from collections.abc import Iterator
 from html import escape
 
-from acpidis_tools.errors import Fault, name_in
+from acpidis_tools.errors import Fault, name_at
 from acpidis_tools.listing import Block, Line, path_text
 from acpidis_tools.names import Meaning, Sort, Uses, is_name
 from acpidis_tools.page.sheet import BETWEEN, Sheet, chunk_html, classed, counted
@@ -71,7 +71,7 @@ def raw_html(line: Line, fault: Fault | None) -> str:
         at = 2 + 4 * (fault.at if fault.at is not None else len(code))
         if at < len(shown) - 1:
             shown = f"{shown[:at]}<mark>{shown[at:at + 2]}</mark>{shown[at + 2:]}"
-            name = name_in(code[fault.at:]) if fault.word == "UnknownName" else None
+            name = name_at(fault, line)
             said += f", {name}" if name else ""
     return f"{'  ' * line.depth}<b>Raw</b>{shown}<em class=note>{said}</em>"
 
