@@ -97,8 +97,9 @@ def file_of(folder: pathlib.Path, quoted: str) -> pathlib.Path | None:
 
 
 def printable(name: str) -> str:
-    """A name of a file, with each byte that isn't UTF-8 as \\x and two digits."""
-    return os.fsencode(name).decode("utf-8", "backslashreplace")
+    """A name of a file, with each byte that isn't UTF-8 as \\x and two digits, as the survey has it."""
+    shown = os.fsencode(name).decode("utf-8", "surrogateescape")
+    return re.sub("[\udc80-\udcff]", lambda byte: f"\\x{ord(byte[0]) & 0xFF:02X}", shown)
 
 
 def said(fault: Exception) -> str:
@@ -304,6 +305,9 @@ def arguments() -> argparse.Namespace:
         words.error("either FACTS or --json is wanted")
     if asked.jobs < 1:
         words.error("--jobs takes a number from 1 on")
+    for there in filter(None, (asked.errors, asked.dumps)):
+        if not os.path.exists(there):
+            words.error(f"there is no {there!r}")
     return asked
 
 

@@ -194,7 +194,7 @@ def check_fleet(checks: Tally, room: pathlib.Path) -> None:
     }
     checks.is_same("those without facts", machines, wanted)
     names = [row[0] for row in rows_of(room / "fleet.facts", "SELECT name FROM machine WHERE fault IS NULL ORDER BY name")]
-    checks.is_same("those with facts", names, [f"good{number:02d}" for number in range(12)] + ["odd\\xff"])
+    checks.is_same("those with facts", names, [f"good{number:02d}" for number in range(12)] + ["odd\\xFF"])
 
 
 def check_questions(checks: Tally, room: pathlib.Path) -> None:
@@ -227,7 +227,7 @@ def check_words(checks: Tally, room: pathlib.Path) -> None:
     with contextlib.closing(sqlite3.connect(other)) as connection:
         connection.execute("CREATE TABLE machine (name TEXT)")
     kept = {file: file.read_bytes() for file in (text, notes, out, other)}
-    for words in ([text], ["--json", text, out], ["--jobs", "0", text, out], []):
+    for words in ([text], ["--json", text, out], ["--jobs", "0", text, out], ["--dumps", room / "none", text, out], []):
         checks.is_same(f"status of {words}", run(*words).returncode, 2)
     others = [notes, out], [room / "nowhere", out], ["--errors", text, text, out], [notes, room / "new"]
     taken = [[text, file] for file in (text, notes, other, room, "/dev/full/facts")]
