@@ -7,7 +7,8 @@ PATH is one from the root, as \\_SB_.PCI0._PTS or \\_sb.pci0._pts, or the end of
 are shown. Each declaration comes with the lines of the blocks around it and its own lines, a method with its body, a device
 with all that is in it, a unit of a field list by itself.
 
-Status 1 is a text that is no listing, or that declares no such path; 2 a command line that is at fault.
+Status 1 is a text that is no listing, or that declares no such path; 2 a command line that is at fault, or a file that can't
+be read or written.
 """
 
 import sys
