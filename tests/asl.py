@@ -411,17 +411,15 @@ def check_unpack(checks):
         place = written(checks.room / "acpixtract", {})
         subprocess.run([ACPIXTRACT, "-a", checks.room / "plain"], cwd=place, capture_output=True, check=False)
         checks.is_same("as acpixtract", files_in(place), names)
+    half = "line 3: a whole row of DSDT at 0010 should stand there"
     for name, content, what in [
         ("no table", "hello", "no table is in it"),
         ("packed", "\x1f\x8b\x08", "it is packed: unpack it first"),
         ("nothing", "", "no table is in it"),
         ("cut", text[: text.index("    0020:")] + "\n", "line 1: DSDT has 32 bytes of 42"),
-        (
-            "gap", text.replace("    0010:", "    0020:", 1),
-            "line 3: a whole row of DSDT at 0010 should stand there",
-        ),
-        ("no row", text.replace("0010: ", "0010: 4Z "), "line 3: a whole row of DSDT at 0010 should stand there"),
-        ("half a row", re.sub("0010: (.. .. )..", r"0010: \1??", text), "line 3: a whole row of DSDT at 0010 should stand there"),
+        ("gap", text.replace("    0010:", "    0020:", 1), half),
+        ("no row", text.replace("0010: ", "0010: 4Z "), half),
+        ("half a row", re.sub("0010: (.. .. )..", r"0010: \1??", text), half),
         ("truncated", dsdt[:-1].decode("latin-1"), "DSDT has 41 bytes of 42"),
         ("title", "DSDT @ 0x0\n", "line 1: DSDT has 0 bytes of its header"),
     ]:  # fmt: skip

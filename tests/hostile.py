@@ -4,8 +4,8 @@
     python3 tests/hostile.py [--mutations N]
 
 First come texts that are written down here, for page.py, facts.py, asl.py, calls.py and missing.py, each with at most 2 seconds
-of processor time and 1 GB of memory; then files of errors that are others, and outputs that take nothing; then N damaged
-listings, 200 if left out, for page.py and facts.py: nothing but a word may come of them. The last line is
+of processor time and 1 GB of memory; then files of errors that are others, outputs that take nothing or a part, and pipes;
+then N damaged listings, 200 if left out, for page.py and facts.py: nothing but a word may come of them. The last line is
 'N passed, N failed'.
 """
 
@@ -133,6 +133,9 @@ def check_files(checks: Tally, room: pathlib.Path) -> None:
             how = {"stdout": printed, "cwd": room, "preexec_fn": bound, "env": {**os.environ, "PYTHONUNBUFFERED": "1"}}
             done = run_script(script, *words, timeout=20, **how)
         checks.is_same(row, (done.returncode, done.stderr), (2, f"{script.removesuffix('.py')}: {said}\n"))
+    for place in ("/dev/stdin", "/proc/self/fd/0"):
+        done = run_script("show.py", place, "AAAA", input=(room / "text").read_text())
+        checks.is_same(f"a pipe as {place}", (done.returncode, done.stderr), (1, f"show: {place!r} declares no such path\n"))
     checks.is_same("what is left of the parts", sorted(os.listdir(room)), ["dump", "fifo", "new", "printed", "text"])
 
 

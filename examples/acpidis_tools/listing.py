@@ -180,8 +180,8 @@ class Reader:
 
 
 def opened(file: str) -> BinaryIO:
-    """A file, open to be read. One that is a pipe by its own name may never end; in /dev stands what a shell gives."""
-    if stat.S_ISFIFO(os.stat(file).st_mode) and not os.fsdecode(file).startswith("/dev/"):
+    """A file, open to be read. A pipe with a name of its own may never end; in /dev and /proc stand those that a shell made."""
+    if stat.S_ISFIFO(os.stat(file).st_mode) and not os.fsdecode(file).startswith(("/dev/", "/proc/")):
         raise OSError(errno.EINVAL, "it is a pipe, which may never end", file)
     return open(file, "rb")
 
