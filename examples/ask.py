@@ -5,13 +5,16 @@
 
 FACTS is what examples/facts.py made; it is only read. SQL is one question, or `-` for that of standard input. The first
 line has the names of the columns, the others the rows, with tabs between the values. docs/facts.md has the tables.
+
+Status 1 is a question that has no answer, or a file of something else; 2 a command line that is at fault, or a file that
+can't be read or written.
 """
 
 import pathlib
 import sqlite3
 import sys
 
-from acpidis_tools import command
+from acpidis_tools import command, listing
 
 
 def shown(value):
@@ -23,6 +26,7 @@ def shown(value):
 def main():
     asked = command.parser(__doc__, "FACTS", "SQL").parse_args()
     sql = sys.stdin.read() if asked.sql == "-" else asked.sql
+    listing.opened(asked.facts).close()  # SQLite's fault wouldn't name it
     try:
         connection = sqlite3.connect(pathlib.Path(asked.facts).absolute().as_uri() + "?mode=ro", uri=True)
         rows = connection.execute(sql)

@@ -9,12 +9,13 @@ becomes a line. What ASL can't spell as the listing has it is told on standard e
 is 3: what iasl makes of that has other bytes, or is refused by it.
 
 With --edit the text is one to be changed: what other tables declare is declared as External, so that iasl finds a name that
-is typed wrongly. With --method it is an SSDT with one method alone, for splice.py. Such a file is never written again.
+is typed wrongly. With --method it is an SSDT with one method alone, for splice.py. What stands for a raw body iasl refuses, so
+that no method is emptied. A file that is there and isn't as it would be made may have been changed: it isn't written over.
 --tables names the folder of the dumps, and tells which of them has lengths or names that aren't in their shortest form: the
 listing doesn't show that, and iasl writes the shortest.
 
-Status 1 is a text that is no listing, or that hasn't got the method: then nothing is written. 2 is a command line that is at
-fault, or a file that can't be read or written.
+Status 1 is a text that is no listing, or that hasn't got the method, or has it raw: then nothing is written. 2 is a command
+line that is at fault, or a file that can't be read or written.
 """
 
 import os
@@ -45,13 +46,24 @@ def of_listing(asked):
     )
     reader.read(asked.listing)
     found = [method for block in reader.blocks for method in block.found] if asked.method else reader.blocks
-    if not found:
-        raise NoListing(f"it declares no method {asked.method}")
-    if asked.method and len(found) > 1:
-        raise NoListing(f"it declares {asked.method} on the lines {', '.join(str(method.number) for method in found)}")
+    if asked.method:
+        check_method(asked.method, found, reader.rows)
     rows = reader.rows if len(reader.rows) * len(found) <= MOST_EXTERNALS else []
     said = said_by(reader.blocks)
     return reader.blocks, [Made(it.table, it.text(rows, said), it.told) for it in found]
+
+
+def check_method(path, found, rows):
+    """Refuses a path at which not just one method with terms is found."""
+    if not found:
+        ends = [row.path() for row in rows if isinstance(row.kind, int) and row.path().endswith("." + path[1:])]
+        where = f": name it from the root, as {ends[0]}; acpidis-show has all that end so" if ends else ""
+        raise NoListing(f"it declares no method {path}{where}")
+    if len(found) > 1:
+        lines = ", ".join(str(method.number) for method in found)
+        raise NoListing(f"it declares {path} on the lines {lines}: change the table as a whole, with --edit")
+    if not found[0].has_terms:
+        raise NoListing(f"line {found[0].number}: the body of {path} is raw: it has no terms to be changed")
 
 
 def files_of(made):
@@ -78,15 +90,17 @@ def head(file, is_edited):
 
 
 def write(folder, made, is_edited):
-    """Writes the files. One that is to be changed is written once: it may have been."""
+    """Writes the files. One that is there and is another may have been changed, and stays."""
     os.makedirs(folder, exist_ok=True)
-    files = [os.path.join(folder, file) for file in files_of(made)]
-    there = next((file for file in files if is_edited and os.path.lexists(file)), None)
-    if there:
-        command.leave(f"asl: {there!r} is there, and may have been changed: remove it, or name another folder")
-    for it, file in zip(made, files):
-        lines = "".join(f"{line}\n" for line in (*head(os.path.basename(file), is_edited), *it.lines))
-        command.write(file, lines.encode("ascii"))
+    texts = {}
+    for it, file in zip(made, files_of(made)):
+        lines = "".join(f"{line}\n" for line in (*head(file, is_edited), *it.lines))
+        texts[os.path.join(folder, file)] = lines.encode("ascii")
+    for file, text in texts.items():
+        if os.path.lexists(file) and not (os.path.isfile(file) and command.read(file) == text):
+            command.leave(f"asl: {file!r} is there, and may have been changed: remove it, or name another folder")
+    for file, text in texts.items():
+        command.write(file, text)
 
 
 def main():
@@ -100,7 +114,7 @@ def main():
         blocks, made = of_listing(asked)
         more = list(forms.told(asked.tables, blocks)) if asked.tables else []
         write(asked.out, made, asked.edit or asked.method)
-    told = [f"{it.table.file[1:-1]}: line {number}: {what}" for it in made for number, what in it.told]
+    told = [f"{it.table.file[1:-1]}: line {number} of the listing: {what}" for it in made for number, what in it.told]
     for line in (*told, *more):
         print(f"asl: {line}", file=sys.stderr)
     if told or more:

@@ -66,7 +66,7 @@ def add_given(file, namespace):
 def listing_of(asked):
     run = running.run([running.program(), *command.words_of(asked.options), "--", asked.folder])
     if run.refused:
-        raise running.Refused(run.refused)
+        raise running.refused(run.refused, asked.options)
     namespace = run.listing.namespace
     for line, scope, _ in run.listing.lines:
         form = EXTERNAL.fullmatch(line)

@@ -60,6 +60,10 @@ if [ $# -lt 2 ] || [ $# -gt 3 ]; then
     echo "usage: ${0##*/} HOSTS SETS [JOBS]" >&2
     exit 2
 fi
+if [ ! -r "$1" ] || [ -d "$1" ]; then
+    echo "collect: cannot read $1" >&2
+    exit 2
+fi
 mkdir -p -- "$2" || exit 1
 SETS=$2
 export SETS

@@ -123,7 +123,7 @@ class Search:
             # For a name outside the methods, for which the set is refused, no body waits.
             found = {outside[1]: []} if outside and outside[1] not in self.counts else self.found_in(bodies)
             if run.refused and not found:
-                raise running.Refused(run.refused)
+                raise running.refused(run.refused, self.options)
             if not found:
                 return bodies
             if len(self.counts) + len(found) > MOST_NAMES:

@@ -10,6 +10,9 @@ has what stands at and below a path, as \\_SB_.PCI0.LPCB, or in a file, as ssdt3
 The page has the namespace as a tree, the tables, and the definition blocks, where each name leads to what it means, and
 each number and buffer has beside it what it says. It stands alone: it asks no network for anything. Each path is an
 anchor, as in page.html#\\_SB_.PCI0, and so is each line's number.
+
+Status 1 is a text that is no listing, or one that is too large; 2 a command line that is at fault, or a file that can't be
+read or written.
 """
 
 from __future__ import annotations
@@ -37,8 +40,6 @@ def of_file(file: str, make: Callable[[bytes], Made], most: int, what: str = "is
     way = "; --only makes one of a path or of a file alone" if most < MOST_TO_READ else ""
     try:
         return make(read_file(file, most, f", which are too many for one page{way}"))
-    except OSError as error:
-        sys.exit(f"page: cannot read {file!r}: {error.strerror}")
     except NoListing as fault:
         sys.exit(f"page: {file!r} {what}: {fault}")
 

@@ -265,7 +265,10 @@ def say_file(asked, refusal):
 
 def words_on(asked, refusal):
     """What is said of a refusal, and the ways on, of an SSDT and of a DSDT."""
-    if refusal.word == "Short" and DUMPED.match(read_file(asked.folder, refusal.file)):
+    begin = read_file(asked.folder, refusal.file) if refusal.word == "Short" else b""
+    if begin.startswith(command.PACKED):
+        return WORDS["a packed file"]
+    if DUMPED.match(begin):
         return WORDS["the text of acpidump"]
     # No option takes a Return outside the methods.
     is_code = refusal.word == "ModuleCode" and None not in (refusal.file, refusal.at)

@@ -8,7 +8,7 @@ are shown. Each declaration comes with the lines of the blocks around it and its
 with all that is in it, a unit of a field list by itself. Behind units stand their bytes and bits.
 
 Status 1 is a text that is no listing, or that declares no such path: then an External that names it is told, or what is like
-it; 2 is a command line that is at fault.
+it; 2 is a command line that is at fault, or a file that can't be read or written.
 """
 
 import difflib

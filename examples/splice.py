@@ -7,12 +7,13 @@ NEW is a table in which iasl compiled what stands at each PATH, as \\_SB_.PCI0._
 DUMP change the bytes of what is declared there behind its name, the package lengths around them, each in its width while its
 value has room, the header's length and its sum. With --oem-revision the header's OEM revision is one more: Linux passes over an
 override that isn't newer. With --initrd FILE the table is also written as an archive for the front of an initrd. Without -o it
-goes to standard output.
+goes to standard output. Neither file may be DUMP.
 
 Status 1 is a table in which PATH is declared not at all, several times or as something else, or that can't be read: nothing is
 written then. 2 is a command line that is at fault, or a file that can't be read or written.
 """
 
+import os
 import sys
 from collections import namedtuple
 
@@ -145,6 +146,9 @@ def main():
     asked = words.parse_args()
     if sys.stdout.isatty() and not asked.output:
         words.error("a table isn't for a terminal: name a file for it by -o")
+    for file in filter(None, (asked.output, asked.initrd)):
+        if file == "-" or os.path.exists(file) and os.path.samefile(file, asked.dump):
+            words.error(f"{file!r} is {'no name of a file' if file == '-' else 'DUMP'}: name another")
     with command.reading("splice", Refused):
         table, new = command.read(asked.dump), command.read(asked.new)
         for path in asked.paths:

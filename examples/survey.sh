@@ -22,12 +22,12 @@ script=$(cd -- "$(dirname -- "$0")" && pwd -P)/${0##*/} || exit 1
 top=${script%/*/*}
 
 # Sets ACPIDIS to the program: the one it names, else that of this repository, which is built where it isn't, else the
-# installed one.
+# installed one, on PATH or beside this script.
 find_program() {
     if [ -z "${ACPIDIS-}" ] && [ -f "$top/acpidis" ] && [ -x "$top/acpidis" ]; then
         ACPIDIS=$("$top/acpidis" --program) || exit
     fi
-    ACPIDIS=$(command -v -- "${ACPIDIS:-acpidis}") || fail 'no program acpidis: install it, or name it in ACPIDIS'
+    ACPIDIS=$(PATH=$PATH:${script%/*}:$top/../bin && command -v -- "${ACPIDIS:-acpidis}") || fail 'no program acpidis: install it, or name it in ACPIDIS'
     export ACPIDIS
 }
 
@@ -81,6 +81,7 @@ without_line() {
 # open_results SETS RESULTS: makes the file where it isn't there, and cuts off a last line that isn't whole
 open_results() {
     [ -d "$1" ] || fail "no folder $1"
+    [ ! -e "$2" ] || [ -f "$2" ] || [ "$2" = /dev/null ] || fail "$2 is no regular file"
     : >>"$2" || fail "cannot write $2"
     if [ -n "$(tail -c 1 -- "$2")" ]; then
         truncate -s "$(head -n "$(wc -l <"$2")" -- "$2" | wc -c)" -- "$2" || fail "cannot write $2"
@@ -236,6 +237,8 @@ while getopts j:s:m: option; do
 done
 shift $((OPTIND - 1))
 case $jobs in '' | 0* | *[!0-9]*) fail "-j takes a number of jobs, not $jobs" ;; esac
+case ${SURVEY_SECONDS-600} in '' | 0 | . | *[!0-9.]* | *.*.*) fail "-s takes a number of seconds, not $SURVEY_SECONDS" ;; esac
 case ${SURVEY_MEGABYTES-} in 0* | *[!0-9]*) fail "-m takes a number of megabytes, not $SURVEY_MEGABYTES" ;; esac
 [ $# -ge 2 ] || fail "usage: ${0##*/} [-j JOBS] [-s SECONDS] [-m MEGABYTES] SETS RESULTS [OPTION..]"
+case " ${*:3} " in *' --help '* | *' -h '* | *' --version '* | *' -V '*) fail '--help and --version check no set' ;; esac
 survey "$@"

@@ -25,11 +25,9 @@ from acpidis_tools.running import Refused
 
 TITLE = re.compile(r"[> \t]*(RSD PTR|[A-Z0-9!_]{4}) @ 0x([0-9A-Fa-f]{1,16})\s*")
 ROW = re.compile(r"[> \t]*([0-9A-Fa-f]{4,8}): ((?:[0-9A-Fa-f]{2}(?: |$)){1,16})")
-HEADER, ROOT, ROOT_LENGTH = 36, b"RSD PTR ", 20
+HEADER, ROOT, ROOT_LENGTH, WIDTH = 36, b"RSD PTR ", 20, 16
 # A header as tables in images have them: a signature, a length, a revision, and names of printable bytes.
 HEAD = re.compile(rb"(?=([A-Z][A-Z0-9]{3}|[A-Z0-9]{3}!).{4}[\0-\x20].[ -~\0]{6}[ -~\0]{8}.{4}[ -~\0]{4})", re.DOTALL)
-# How files begin that are packed.
-PACKED = (b"\x1f\x8b", b"BZh", b"\xfd7zXZ", b"PK\3\4", b"\x28\xb5\x2f\xfd")
 SIGNATURE = re.compile(rb"[A-Z0-9_!]{4}")
 
 
@@ -55,20 +53,23 @@ def length_of(data):
 
 def dumped(text):
     """The tables of acpidump's text."""
-    tables, title = [], None
+    tables, title, odd = [], None, 0
     for number, line in enumerate(text.split("\n"), 1):
         found, row = TITLE.fullmatch(line.rstrip("\r")), ROW.match(line.rstrip("\r"))
         if found:
             title = (number, found[1].replace("RSD PTR", "RSDP"), int(found[2], 16))
             tables.append((title, bytearray()))
+            odd = 0
         elif row and title:
-            if int(row[1], 16) != len(tables[-1][1]):
-                raise Refused(
-                    f"line {number}: the row of {title[1]} at {row[1]} stands where that at {len(tables[-1][1]):04X} should"
-                )
-            tables[-1][1].extend(bytes.fromhex(row[2]))
+            had, more = len(tables[-1][1]), bytes.fromhex(row[2])
+            if int(row[1], 16) != had:
+                raise Refused(f"line {odd or number}: a whole row of {title[1]} at {had & -WIDTH:04X} should stand there")
+            tables[-1][1].extend(more)
+            odd = number * (len(more) < WIDTH)  # the first line that is no whole row
         elif not line.strip("> \t\r"):
             title = None
+        else:
+            odd = odd or number
     for (number, name, _), data in tables:
         if len(data) < 8 or length_of(data) > len(data):
             whole = length_of(data) if len(data) > 7 else "its header"
@@ -105,8 +106,10 @@ def tables_of(data):
     text = data.decode("latin-1")
     is_text = any(map(TITLE.fullmatch, map(str.rstrip, text.split("\n"))))
     tables = dumped(text) if is_text else behind_each_other(data) or found_in(data)
+    if not tables and HEAD.match(data) and length_of(data) > len(data):
+        raise Refused(f"{text[:4]} has {len(data)} bytes of {length_of(data)}")
     if not tables:
-        raise Refused("it is packed: unpack it first" if data.startswith(PACKED) else "no table is in it")
+        raise Refused("it is packed: unpack it first" if data.startswith(command.PACKED) else "no table is in it")
     return tables
 
 
@@ -136,19 +139,20 @@ def write(folder, tables):
     place = os.path.abspath(folder)
     if os.path.lexists(place) and (not os.path.isdir(place) or os.listdir(place)):
         command.leave(f"unpack: {folder!r} is there, and isn't an empty folder")
-    part = tempfile.mkdtemp(dir=os.path.dirname(place), prefix=".part")
-    try:
-        names = list(names_of(tables))
-        for name, table in zip(names, tables):
-            pathlib.Path(part, name).write_bytes(table.data)
-        if leads(tables):
-            lines = (f"{table.address:016X} {name}\n" for name, table in zip(names, tables) if table.address)
-            pathlib.Path(part, "tables.map").write_text("".join(lines), encoding="ascii")
-        os.chmod(part, 0o755)
-        os.replace(part, place)
-    except BaseException:
-        shutil.rmtree(part, ignore_errors=True)
-        raise
+    names = list(names_of(tables))
+    with command.naming(folder):
+        part = tempfile.mkdtemp(dir=os.path.dirname(place), prefix=".part")
+        try:
+            for name, table in zip(names, tables):
+                pathlib.Path(part, name).write_bytes(table.data)
+            if leads(tables):
+                lines = (f"{table.address:016X} {name}\n" for name, table in zip(names, tables) if table.address)
+                pathlib.Path(part, "tables.map").write_text("".join(lines), encoding="ascii")
+            os.chmod(part, 0o755)
+            os.replace(part, place)
+        except BaseException:
+            shutil.rmtree(part, ignore_errors=True)
+            raise
     for name, table in zip(names, tables):
         print(name, table.signature, len(table.data))
 
@@ -156,7 +160,7 @@ def write(folder, tables):
 def main():
     asked = command.parser(__doc__, "FILE", "FOLDER").parse_args()
     with command.reading("unpack", Refused, f"{asked.file!r}: "):
-        write(asked.folder, tables_of(pathlib.Path(asked.file).read_bytes()))
+        write(asked.folder, tables_of(command.read(asked.file)))
 
 
 if __name__ == "__main__":

@@ -119,6 +119,12 @@ def changed(change):
     return WHOLE.replace(old, new.replace("\\n", "\n    "))
 
 
+# Paths of which asl.py makes no method, and what it says of them where \\FOO_ is raw.
+METHODS = [
+    ("FOO_", "line 8: the body of \\FOO_ is raw: it has no terms to be changed"),
+    ("NONE", "it declares no method \\NONE"), ("BAR_", "it declares no method \\BAR_"),
+    ("_STA", "it declares no method \\_STA: name it from the root, as \\DEV0._STA; acpidis-show has all that end so"),
+]  # fmt: skip
 # Texts that are no listings, with what is said of them.
 MISREAD = [
     ("", "it is empty"),
@@ -140,9 +146,24 @@ def check_told(checks):
     rows = [(body.replace("\\n", "\n    "), what, 9, 2) for body, what in BODIES]
     rows += [(f"Field (REG0, 0x01) {{\n      {unit}\n    }}", what, 10, 2) for unit, what in UNITS]
     wide = f"{WIDE} in a table of revision 1, whose integers have 4 bytes"
-    for body, what, number, revision in [*rows, (*SCOPED, 9, 2), (f"Store ({WIDE}, Local0)", wide, 9, 1)]:
+    for at, (body, what, number, revision) in enumerate([*rows, (*SCOPED, 9, 2), (f"Store ({WIDE}, Local0)", wide, 9, 1)]):
         text = checks.text("told.text", text_with(body, revision))
-        checks.says(body, [ASL, text, "told"], 3, f"asl: a.dat: line {number}: {what}\n")
+        checks.says(body, [ASL, text, f"told{at}"], 3, f"asl: a.dat: line {number} of the listing: {what}\n")
+
+
+def check_method(checks):
+    """Nothing is made of a raw method, of several, or of a path that isn't from the root; and iasl refuses a raw body."""
+    raw = checks.text("raw.text", text_with("Raw {A4}"))
+    for path, said in METHODS:
+        checks.says(f"--method {path}", [ASL, "--method", path, raw, "method"], 1, f"asl: {str(raw)!r}: {said}\n")
+    checks.is_so("no method is written", not (checks.room / "method").exists())
+    twice = checks.text("twice.text", WHOLE[:-2] + "  Method (FOO_, 0, NotSerialized, 0) {\n  }\n}\n")
+    said = "it declares \\FOO_ on the lines 8, 11: change the table as a whole, with --edit"
+    checks.says("a method twice", [ASL, "--method", "FOO_", twice, "method"], 1, f"asl: {str(twice)!r}: {said}\n")
+    for option in ("--edit",), ():
+        out = checks.room / f"raw{len(option)}"
+        checks.is_same("a raw body is told", checks.run(ASL, *option, raw, out).returncode, 3)
+        checks.is_so("iasl refuses a raw body", not IASL or not compiled(out / "a.dat.asl"))
 
 
 def check_misread(checks):
@@ -242,8 +263,12 @@ def check_edit(checks):
     """Whole tables to be changed are compiled, but with a name that nothing declares."""
     checks.text("edit.text", listed(written(checks.room / "edit", VERSIONS["first"])))
     checks.says("--edit", [ASL, "--edit", "edit.text", "edited"], 0)
+    checks.says("--edit once more", [ASL, "--edit", "edit.text", "edited"], 0)
     what = "asl: 'edited/dsdt.dat.asl' is there, and may have been changed: remove it, or name another folder\n"
-    checks.says("--edit once more", [ASL, "--edit", "edit.text", "edited"], 2, what)
+    checks.says("without --edit", [ASL, "edit.text", "edited"], 2, what)
+    whole = (checks.room / "edited/dsdt.dat.asl").read_text("ascii")
+    checks.text("edited/dsdt.dat.asl", whole + "// changed\n")
+    checks.says("--edit of what is changed", [ASL, "--edit", "edit.text", "edited"], 2, what)
     for source in (checks.room / "edited").iterdir():
         checks.is_so(f"{source.name} is compiled", compiled(source))
         text = source.read_text("ascii")
@@ -310,6 +335,12 @@ def check_splice(checks):
         checks.says(f"splice {words}", [SPLICE, f"splice/{one}", f"splice/{other}", path], 1, f"splice: {what}\n", "")
     checks.says("no such file", [SPLICE, old, "none", "NAM1"], 2, "splice: 'none': No such file or directory\n")
     checks.is_same("no path", checks.run(SPLICE, old, new, "1").returncode, 2)
+    for more, file in ((["-o", old], old), (["--initrd", "splice/../splice/old"], "splice/../splice/old"), (["-o", "-"], "-")):
+        ran = checks.run(SPLICE, *more, old, new, "NAM1")
+        what = "no name of a file" if file == "-" else "DUMP"
+        said = f"splice.py: error: {file!r} is {what}: name another"
+        checks.is_same(f"splice {more}", (ran.returncode, ran.stderr.splitlines()[-1]), (2, said))
+    checks.is_same("DUMP stays", (checks.room / old).read_bytes(), files["old"])
     paths = "\\DEV0.MET0", "dev0.nam0", "\\NAM1"
     patched = spliced(checks, "--oem-revision", "--initrd", "acpi.cpio", old, new, *paths)
     wanted = device(b"DEV0", b"\x08NAM0\x0A\x07", method(b"MET0", 1, NOOP)) + b"\x08NAM1\x0D1\x00" + twice
@@ -380,15 +411,16 @@ def check_unpack(checks):
         place = written(checks.room / "acpixtract", {})
         subprocess.run([ACPIXTRACT, "-a", checks.room / "plain"], cwd=place, capture_output=True, check=False)
         checks.is_same("as acpixtract", files_in(place), names)
+    half = "line 3: a whole row of DSDT at 0010 should stand there"
     for name, content, what in [
         ("no table", "hello", "no table is in it"),
         ("packed", "\x1f\x8b\x08", "it is packed: unpack it first"),
         ("nothing", "", "no table is in it"),
         ("cut", text[: text.index("    0020:")] + "\n", "line 1: DSDT has 32 bytes of 42"),
-        (
-            "gap", text.replace("    0010:", "    0020:", 1),
-            "line 3: the row of DSDT at 0020 stands where that at 0010 should",
-        ),
+        ("gap", text.replace("    0010:", "    0020:", 1), half),
+        ("no row", text.replace("0010: ", "0010: 4Z "), half),
+        ("half a row", re.sub("0010: (.. .. )..", r"0010: \1??", text), half),
+        ("truncated", dsdt[:-1].decode("latin-1"), "DSDT has 41 bytes of 42"),
         ("title", "DSDT @ 0x0\n", "line 1: DSDT has 0 bytes of its header"),
     ]:  # fmt: skip
         (checks.room / name).write_bytes(content.encode("latin-1"))
@@ -460,8 +492,8 @@ def check_forms(checks):
 
 
 CHECKS = (
-    check_forms, check_told, check_misread, check_mutations, check_names, check_speed, check_splice, check_unpack, check_show,
-    check_grown,
+    check_forms, check_told, check_method, check_misread, check_mutations, check_names, check_speed, check_splice, check_unpack,
+    check_show, check_grown,
 )  # fmt: skip
 
 

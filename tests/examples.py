@@ -14,7 +14,7 @@ import re
 import shlex
 import subprocess
 
-from tally import TOP, Tally, asked, executable, parts_in, timed, written
+from tally import TOP, Tally, asked, executable, parts_in, run_script, timed, written
 from made_aml import SETS, device, method, table, tables
 
 
@@ -48,6 +48,7 @@ def make_sets(tries):
     for name, codes in SETS.items():
         written(tries.room / name, tables(*codes))
     written(tries.room / "noted", {**tables(*SETS["twice"]), "notes.txt": b"no table"})
+    written(tries.room / "packed", {"dsdt.dat": b"\x1f\x8b\x08\0" + b"a.packed.table" * 9})
     tries.folder("odd", *SETS["branch"], BAD_NAME)
     tries.folder("$(touch bad)", *SETS["ejects"], BAD_NAME)
     tries.folder("text", b'\x08TEXT\x0d"\n      Raw {5A}\nMethod (AAAA, 7, \0' + SETS["ejects"][0])
@@ -116,6 +117,11 @@ def try_damage(tries):
     found = tries.run("refused.py", "noted")
     tries.is_so("the text of acpidump", "Way on: `acpidis-unpack FILE FOLDER`" in found.stdout and not found.stderr)
     tries.fills_disk("refused.py", "twice", cwd=tries.room)
+    end, closed = os.pipe()
+    os.close(end)
+    found = run_script("missing.py", "ejects", stdout=closed, cwd=tries.room)
+    is_quiet = found.returncode == 2 and "missing:" not in found.stderr and "Errno" not in found.stderr
+    tries.is_so(f"missing.py, a closed pipe: {found.returncode}, {found.stderr}", is_quiet)
     tries.folder("damaged", *SETS["branch"])
     data, file = table(b"DSDT", SETS["branch"][0] + b"\x5b\x80REG0\0"), tries.room / "damaged/dsdt.dat"
     for at, byte in itertools.product(range(36, 86, 7), (0x00, 0x5B, 0xFF)):

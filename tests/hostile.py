@@ -4,8 +4,8 @@
     python3 tests/hostile.py [--mutations N]
 
 First come texts that are written down here, for page.py, facts.py, asl.py, calls.py and missing.py, each with at most 2 seconds
-of processor time and 1 GB of memory; then files of errors that are others, and outputs that take nothing; then N damaged
-listings, 200 if left out, for page.py and facts.py: nothing but a word may come of them. The last line is
+of processor time and 1 GB of memory; then files of errors that are others, outputs that take nothing or a part, and pipes;
+then N damaged listings, 200 if left out, for page.py and facts.py: nothing but a word may come of them. The last line is
 'N passed, N failed'.
 """
 
@@ -17,10 +17,11 @@ import resource
 import subprocess
 from collections.abc import Iterator
 
-from tally import TOP, Tally, asked, executable, module_of, parts_in, run_script, timed, written
+from tally import TOP, Tally, asked, executable, module_of, parts_in, run_script, tables_in, timed, written
 from acpidis_tools.errors import read_errors
 from acpidis_tools.listing import NoListing
 from acpidis_tools.page.markup import page
+from made_aml import table
 from running import Options, run_folder
 from acpidis_tools.page.sheet import Sheet
 from telling import HOSTILE_FILES, RUNS_FILES
@@ -114,6 +115,28 @@ def check_outputs(checks: Tally, room: pathlib.Path) -> None:
             checks.is_so(f"{script}, errors {what}: {status}, {said}", status in wanted and (status == 0 or is_named))
     checks.fills_disk("page.py", text)
     checks.fills_disk("facts.py", "--json", text)
+    for script in sorted(file.name for file in TOP.glob("examples/*.py")):
+        done = run_script(script, "--help", stdout=None, preexec_fn=lambda: os.close(1))
+        said = f"{script.removesuffix('.py')}: cannot write: Bad file descriptor\n"
+        checks.is_same(f"{script}, a closed output", (done.returncode, done.stderr), (2, said))
+
+
+def check_files(checks: Tally, room: pathlib.Path) -> None:
+    """The rows of tests/outputs.txt. Unbuffered, a write of a part must not pass for one of the whole."""
+    room = written(room / "files", {"dump": table(b"DSDT", b"\x08NAM1\x0D" + b"x" * 9000 + b"\0\x08NAM2\1")})
+    (room / "text").write_text(text_of([], ["Noop"] * 1000))
+    os.mkfifo(room / "fifo")
+    bound = lambda: resource.setrlimit(resource.RLIMIT_FSIZE, (4096, 4096))
+    for row, said in (line.split("  # ") for line in tables_in("outputs.txt")[0]):
+        script, *words = row.split()
+        with open(room / "printed", "wb") as printed:
+            how = {"stdout": printed, "cwd": room, "preexec_fn": bound, "env": {**os.environ, "PYTHONUNBUFFERED": "1"}}
+            done = run_script(script, *words, timeout=20, **how)
+        checks.is_same(row, (done.returncode, done.stderr), (2, f"{script.removesuffix('.py')}: {said}\n"))
+    for place in ("/dev/stdin", "/proc/self/fd/0"):
+        done = run_script("show.py", place, "AAAA", input=(room / "text").read_text())
+        checks.is_same(f"a pipe as {place}", (done.returncode, done.stderr), (1, f"show: {place!r} declares no such path\n"))
+    checks.is_same("what is left of the parts", sorted(os.listdir(room)), ["dump", "fifo", "new", "printed", "text"])
 
 
 def mutated(lines: list, dice: random.Random) -> str:
@@ -169,6 +192,7 @@ def main() -> None:
     with Tally() as checks:
         check_texts(checks, checks.room)
         check_outputs(checks, checks.room)
+        check_files(checks, checks.room)
         check_mutations(checks, checks.room, count)
 
 

@@ -44,6 +44,10 @@ if command -v man >/dev/null; then
 fi
 docs=$prefix/share/doc/acpidis
 is 'commands find the program' "$(PATH=$prefix/bin:$PATH acpidis-missing "$demo" 2>&1)" '# no body waits for a name'
+is 'commands find it beside them' "$("$prefix/bin/acpidis-missing" "$demo" 2>&1)" '# no body waits for a name'
+is 'scripts find it' "$("$prefix/share/acpidis/missing.py" "$demo" 2>&1)" '# no body waits for a name'
+is 'the survey finds it' "$(cd "$work" && mkdir beside && cp -r "$demo" beside && "$prefix/bin/acpidis-survey" beside one 2>&1 &&
+    "$prefix/share/acpidis/survey.sh" beside two 2>&1)" "$(printf 'survey: status 0: 1\nsurvey: status 0: 1')"
 is 'another program' "$(ACPIDIS=/none/acpidis "$prefix/bin/acpidis-missing" "$demo" 2>&1)" \
     'missing: no program acpidis: install it, or name it in ACPIDIS'
 for script in "$top"/examples/*.py "$top"/examples/*.sh; do

@@ -65,6 +65,10 @@ is 'no sets' "$? $(cat none)" '1 '
 "$survey" sets >/dev/null 2>&1
 is 'too few words' "$?" 1
 mkdir nothing
+is 'results that are no file' "$(timeout 5 "$survey" sets /dev/full 2>&1; echo "$?")" $'survey: /dev/full is no regular file\n1'
+for option in --help --version; do
+    is "$option" "$("$survey" sets none --any-sum $option 2>&1; echo "$?"; cat none)" $'survey: --help and --version check no set\n1'
+done
 is 'an empty folder' "$("$survey" nothing none 2>&1; echo "$?")" $'survey: no folder with tables is below nothing\n1'
 is 'a set itself' "$("$survey" sets/text none 2>&1; echo "$?")" \
     $'survey: no folder with tables is below sets/text\n1'
@@ -121,6 +125,7 @@ exit 1
 S
 ACPIDIS=$work/bound.sh "$survey" -s 0.5 -m 100 -j 3 some bound 2>/dev/null
 is 'bounds' "$(cut -f 1-3 bound | sort | head -n 1)" $'1\t1\ttable "dsdt.dat": ModuleCode at 102400 (--any-run was cut off)'
+is 'no number of seconds' "$("$survey" -s x some bound 2>&1; echo "$?")" $'survey: -s takes a number of seconds, not x\n1'
 is 'no number of megabytes' "$("$survey" -m 0 some bound 2>&1; echo "$?")" $'survey: -m takes a number of megabytes, not 0\n1'
 
 # killed in the middle, again and again, with all that it started: each set gets just one line in the end
@@ -194,6 +199,7 @@ chmod 6755 odd/dsdt.dat
 chmod 2000 odd/shut
 # shellcheck disable=SC2016
 printf '%s\n' good1 dead '# a line' '' late half '-oProxyCommand=touch bad' '../out' 'a b' '$(touch bad)' good2 >hosts
+is 'no hosts' "$("$collect" nowhere collected 2>&1; echo "$?"; ls -d collected 2>/dev/null)" $'collect: cannot read nowhere\n2'
 collected() {
     PATH=$work/commands:$PATH COLLECT_SECONDS=1 "$collect" hosts collected 2>errors
 }

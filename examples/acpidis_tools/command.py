@@ -8,13 +8,15 @@ import sys
 import tempfile
 import time
 
-from acpidis_tools import running
+from acpidis_tools import listing, running
 
 AT_FAULT = 2
 OPTION = re.compile(r"^ {2}(?:-\w, | {4})(--[a-z][a-z-]*)(?: <(\w+)>)?(?= |$)", re.MULTILINE)
 # What comes with these is no listing.
 NO_LISTING = ("--help", "--version", "--check")
 SEGMENT = re.compile(r"[A-Z_][A-Z0-9_]{0,3}")
+# How files begin that are packed.
+PACKED = (b"\x1f\x8b", b"BZh", b"\xfd7zXZ", b"PK\3\4", b"\x28\xb5\x2f\xfd")
 
 
 def parser(about, *names, **more):
@@ -99,8 +101,12 @@ class Progress:
 
 
 def run(script, main):
-    """Runs the main function of a script, and writes out what it printed. Where writing fails, or memory ends, it ends in a line."""
+    """Runs the main function of a script, and writes out what it printed. Where a file is at fault, writing fails, or memory
+    ends, it ends in a line."""
     try:
+        # Standard output may be closed. With PYTHONUNBUFFERED a write of a part would pass for one of the whole.
+        how = {"encoding": sys.stdout.encoding, "errors": sys.stdout.errors} if sys.stdout else {}
+        sys.stdout = open(1, "w", closefd=False, **how)
         try:
             main()
         finally:
@@ -108,7 +114,8 @@ def run(script, main):
     except BrokenPipeError:
         leave()  # who reads it has enough
     except OSError as fault:
-        leave(f"{script}: cannot write: {fault.strerror}")
+        what = repr(os.fsdecode(fault.filename)) if fault.filename else "cannot write"  # standard output has no name
+        leave(f"{script}: {what}: {fault.strerror}")
     except MemoryError:
         leave(f"{script}: there is not enough memory")
     except KeyboardInterrupt:
@@ -117,35 +124,43 @@ def run(script, main):
 
 @contextlib.contextmanager
 def running_it(script):
-    """Ends a script in a line where acpidis refuses the set, or where that or a file is at fault."""
+    """Ends a script in a line where acpidis refuses the set, or is at fault."""
     try:
         yield
     except running.Refused as fault:
         sys.exit(f"{script}: the set is refused: {fault}")
-    except (running.Unusable, OSError, ValueError) as fault:
-        print(f"{script}: {fault}", file=sys.stderr)
-        sys.exit(AT_FAULT)
+    except (running.Unusable, ValueError) as fault:
+        leave(f"{script}: {fault}")
 
 
 @contextlib.contextmanager
 def reading(script, refusal, front=""):
-    """Ends a script in a line where it refuses what it is given, or where a file is at fault."""
+    """Ends a script in a line where it refuses what it is given."""
     try:
         yield
     except refusal as fault:
         sys.exit(f"{script}: {front}{fault}")
-    except OSError as fault:
-        leave(f"{script}: {fault.filename!r}: {fault.strerror}")
 
 
 def read(file):
-    with open(file, "rb") as opened:
+    with listing.opened(file) as opened:
         return opened.read()
+
+
+@contextlib.contextmanager
+def naming(file):
+    """Gives faults the name of what is written, in place of that of the part that becomes it, or of none."""
+    try:
+        yield
+    except OSError as fault:
+        fault.filename = file
+        raise
 
 
 def write(file, data):
     """Writes a file as a whole, or not at all."""
-    with tempfile.NamedTemporaryFile(dir=os.path.dirname(os.path.abspath(file)), prefix=".part", delete=False) as part:
+    folder = os.path.dirname(os.path.abspath(file))
+    with naming(file), tempfile.NamedTemporaryFile(dir=folder, prefix=".part", delete=False) as part:
         try:
             part.write(data)
             part.close()

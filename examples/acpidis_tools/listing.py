@@ -3,8 +3,12 @@ definition blocks as words, each with its depth and the line that closes what it
 
 from __future__ import annotations
 
+import errno
+import os
 import re
+import stat
 from collections import namedtuple
+from typing import BinaryIO
 
 SEGMENT = r"[A-Z_][A-Z0-9_]{3}"
 NAME = rf"(?:\\|\^+)?{SEGMENT}(?:\.{SEGMENT})*(?!\w)|\\|\^+"
@@ -175,10 +179,17 @@ class Reader:
         return Line(self.at, depth, pieces)
 
 
+def opened(file: str) -> BinaryIO:
+    """A file, open to be read. A pipe with a name of its own may never end; in /dev and /proc stand those that a shell made."""
+    if stat.S_ISFIFO(os.stat(file).st_mode) and not os.fsdecode(file).startswith(("/dev/", "/proc/")):
+        raise OSError(errno.EINVAL, "it is a pipe, which may never end", file)
+    return open(file, "rb")
+
+
 def read_file(file: str, most: int, why: str = "") -> bytes:
     """What a file has. One of more than so many bytes is no listing, which is said with more words of `why`."""
-    with open(file, "rb") as opened:
-        text = opened.read(most + 1)
+    with opened(file) as it:
+        text = it.read(most + 1)
     if len(text) > most:
         raise NoListing(f"it has more than {most:,} bytes{why}")
     return text

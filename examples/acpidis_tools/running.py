@@ -15,12 +15,15 @@ from acpidis_tools import paths, standard
 from acpidis_tools.listing import SEGMENT, NoListing, reader_of
 
 LAUNCHER = pathlib.Path(__file__).resolve().parents[2] / "acpidis"
+# Beside the script, where it is installed
+BIN = LAUNCHER.parents[1] / "bin"
 NAME = re.compile(rf"(\\|\^*)({SEGMENT}(?:\.{SEGMENT})*|)")
 # A name is looked for in each scope around it, which a hostile set could make many.
 MOST_SEGMENTS = 64
 MOST_SHOWN = 40
 METHOD = re.compile(r"Method \((\S+), ([0-7]), ")
 RAW = re.compile(r"Raw \{([0-9A-F, ]*)\}")
+BY_ANY_RUN = re.compile(r'table "[^"]*": (ModuleCode|ModuleCall|Duplicate|ScopeMissing)( .*)?')
 FAULT = re.compile(r"acpidis: body (\\\S*): (.*)")
 SCOPES = {"Scope", "Device", "Processor", "PowerResource", "ThermalZone", "Method"}
 # What has no effect as a term of its own, so that no compiler writes it there.
@@ -40,12 +43,18 @@ class Refused(Exception):
     """The set, or what else a script is given, is refused for this reason."""
 
 
+def refused(line, options):
+    """The refusal of a set for this line. Where it was run without --any-run, which may read the set, it says so."""
+    is_read = BY_ANY_RUN.fullmatch(line) and "--any-run" not in options
+    return Refused(line + "; --any-run may read it" * bool(is_read))
+
+
 def command():
-    """The command that ACPIDIS names, else the launcher of this repository, else the installed program."""
+    """The command that ACPIDIS names, else the launcher of this repository, else the program, on PATH or beside the script."""
     named = os.environ.get("ACPIDIS")
     if not named and LAUNCHER.is_file():
         return str(LAUNCHER)
-    found = shutil.which(named or "acpidis")
+    found = shutil.which(named or "acpidis", path=f"{os.environ.get('PATH', os.defpath)}{os.pathsep}{BIN}")
     if not found:
         raise Unusable("no program acpidis: install it, or name it in ACPIDIS")
     return found

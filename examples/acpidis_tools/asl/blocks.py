@@ -50,7 +50,8 @@ class Block:
         elif self.open[-1] == "Method" and text.startswith(RAW):
             self.tell("a body without terms")
             self.bodies[-1] = False
-            self.lines.append(f"{indent}// {text}")
+            # No ASL, which iasl refuses: else it would make an empty method of it
+            self.lines.append(f"{indent}Raw {{}} // {text.removeprefix('Raw ')}")
         else:
             self.term(indent, text)
         return False
@@ -120,7 +121,7 @@ class MethodBlock(Block):
         found = self.begun
         if found and len(self.open) == found.depth:
             found.lines, found.told = self.lines[found.at :], self.told[found.told_at :]
-            found.uses = self.names.uses[found.uses_at :]
+            found.uses, found.has_terms = self.names.uses[found.uses_at :], self.bodies[-1]
             del self.lines[found.at :]
             self.found.append(found)
             self.begun = None
@@ -151,7 +152,7 @@ class Reader:
 
     def read(self, file):
         """Reads the listing of a file."""
-        with open(file, "rb") as opened:
+        with listing.opened(file) as opened:
             lines = listing.reader_of(opened.read())
         dumps = lines.dumps()
         forms = [(dump, TABLE.fullmatch(dump.text)) for dump in dumps]
