@@ -204,6 +204,7 @@ def check_refusals(checks: Checks, outcome: Outcome) -> None:
         "an empty text": "", "another tool's": 'DefinitionBlock ("", "DSDT", 2, "A", "B", 1)\n{\n}\n',
         "a check": 'Check "a" Bytes 1\n', "a text": "a listing\n", "a line that is cut": outcome.out[:-3],
         "no ASCII": outcome.out.replace("Return", "R\xE9turn"), "21 MB": outcome.out + "  \n" * 7_000_000,
+        "no opcode": outcome.out.replace("  Return", "  Reutrn"),
         "a line less": outcome.out.replace("    Device (PCI0) {\n", ""),
         **{f"the first {count} lines": "".join(lines[:count]) for count in range(1, len(lines), 7)},
     }

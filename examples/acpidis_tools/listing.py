@@ -5,6 +5,7 @@ from __future__ import annotations
 
 import errno
 import os
+import pathlib
 import re
 import stat
 from collections import namedtuple
@@ -29,6 +30,9 @@ HEADER = re.compile(
     r'(?: (?P<leads>Rsdt [0-9A-F]+(?: Length (?P<root_length>\d+) Xsdt [0-9A-F]+)?))?'
     r'(?P<rest>(?: At (?P<address>[0-9A-F]{16}))?(?: BadSum)?)'
 )
+OPCODES = (pathlib.Path(__file__).parent / "opcodes.txt").read_text()
+# With what a line of a block begins that is no name: the word of an opcode, a constant, or what stands in a field list
+TERMS = {*re.findall(r"^[0-9A-F]+ (\w+)", OPCODES, re.MULTILINE), "Raw", "Reserved", "Access", "ExtendedAccess", "Connection"}
 BLOCK = re.compile(rf"DefinitionBlock \(({TEXT})\) {{")
 DEFINITION_BLOCKS = ('"DSDT"', '"SSDT"')
 
@@ -173,6 +177,8 @@ class Reader:
         pieces = WORD.split(bare)
         is_wrong = len(text) - len(bare) != 2 * depth or len(pieces) == 1 and bare != "}"
         is_wrong = is_wrong or bare.startswith("Raw") and not RAW.fullmatch(bare)
+        # A name has no small letter.
+        is_wrong = is_wrong or depth and bare[0].isupper() and bare[1].islower() and pieces[1] not in TERMS
         if is_wrong or not all(map(BETWEEN.fullmatch, pieces[::2])):
             raise self.refuse()
         self.at += 1
