@@ -12,7 +12,7 @@ fact is a line of its own on standard output. With --dumps each table has the su
 the same name below it. docs/facts.md has the tables, and what to ask.
 
 Status 0 is that all machines have facts, 3 that one at least has none: its row says why. 1 is a text that is no listing,
-and 2 a command line or an output that is at fault: with both, older facts stay.
+and 2 a command line, a file or an output that is at fault: with both, older facts stay.
 """
 
 from __future__ import annotations
@@ -323,7 +323,9 @@ def main() -> None:
             sys.exit(f"facts: no listing is in {asked.listing!r}: a file `text` is one, in a folder of each machine")
         name, fault = facts.lacking[-1] if facts.lacking else ("", "")
         if fault and is_one:
-            sys.exit(f"facts: {fault}" if fault.startswith("cannot read ") else f"facts: {asked.listing!r}: {fault}")
+            if fault.startswith("cannot read "):
+                command.leave(f"facts: {fault}")
+            sys.exit(f"facts: {asked.listing!r}: {fault}")
         facts.sink.close()
     except sqlite3.Error as error:
         command.leave(f"facts: cannot write {asked.facts!r}: {error}")

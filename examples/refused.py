@@ -9,6 +9,7 @@ acpidis, but not --check. ACPIDIS names another program. Status 0 is a set that 
 command line, a program or an output that is at fault.
 """
 
+import itertools
 import os
 import pathlib
 import re
@@ -263,6 +264,17 @@ def say_file(asked, refusal):
         yield f"  at byte {refusal.at} stands {bytes_at(data, refusal.at)}"
 
 
+def say_folder(asked):
+    """What a folder has that isn't read: a name that isn't UTF-8, and links, which are passed over."""
+    folder = os.fsencode(asked.folder)
+    names = sorted(os.listdir(folder)) if os.access(folder, os.R_OK | os.X_OK) and os.path.isdir(folder) else []
+    for name in names:
+        if os.path.islink(os.path.join(folder, name)):
+            yield f"  {shown_name(name)} is a link, which is passed over"
+        elif "\ufffd" in name.decode(errors="replace"):
+            yield f"  {shown_name(name)} isn't UTF-8"
+
+
 def words_on(asked, refusal):
     """What is said of a refusal, and the ways on, of an SSDT and of a DSDT."""
     begin = read_file(asked.folder, refusal.file) if refusal.word == "Short" else b""
@@ -289,6 +301,8 @@ def say_all(asked, program, refusal):
             yield "  the scopes are too deep for this script to follow"
     elif refusal.file is not None:
         yield from say_file(asked, refusal)
+    else:
+        yield from itertools.islice(say_folder(asked), MOST_SHOWN)
     if refusal.file is not None and read_file(asked.folder, refusal.file).startswith(b"DSDT"):
         ways = ways_of_dsdt
     ways = [way for way in ways if (asked.externals or way != WAYS["no-count"]) and (asked.has_any_run or way != WAYS["any-run"])]

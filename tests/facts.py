@@ -229,8 +229,8 @@ def check_words(checks: Tally, room: pathlib.Path) -> None:
     kept = {file: file.read_bytes() for file in (text, notes, out, other)}
     for words in ([text], ["--json", text, out], ["--jobs", "0", text, out], ["--dumps", room / "none", text, out], []):
         checks.is_same(f"status of {words}", run(*words).returncode, 2)
-    others = [notes, out], [room / "nowhere", out], ["--errors", text, text, out], [notes, room / "new"]
-    taken = [[text, file] for file in (text, notes, other, room, "/dev/full/facts")]
+    others = [notes, out], ["--errors", text, text, out], [notes, room / "new"]
+    taken = [[room / "nowhere", out], *([text, file] for file in (text, notes, other, room, "/dev/full/facts"))]
     for status, words in [*((1, words) for words in others), *((2, words) for words in taken)]:
         found = run(*words)
         checks.is_same(f"{words}: {found.stderr}", (found.returncode, found.stderr.count("\n")), (status, 1))
