@@ -26,7 +26,6 @@ import os
 import pathlib
 import re
 import sqlite3
-import stat
 import sys
 import tempfile
 from collections import deque
@@ -78,13 +77,7 @@ class Machine:
     def read(self) -> tuple[bytes, bytes]:
         """Its listing and its standard error."""
         text, errors = self.files
-        return read(text), read(errors) if errors else b""
-
-
-def read(file: pathlib.Path) -> bytes:
-    if stat.S_ISFIFO(os.stat(file).st_mode) and file.parts[:2] != ("/", "dev"):
-        raise NoListing("it is a pipe, which may never end")
-    return read_file(str(file), MOST_BYTES)
+        return read_file(str(text), MOST_BYTES), read_file(str(errors), MOST_BYTES) if errors else b""
 
 
 def file_of(folder: pathlib.Path, quoted: str) -> pathlib.Path | None:

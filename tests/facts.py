@@ -190,7 +190,8 @@ def check_fleet(checks: Tally, room: pathlib.Path) -> None:
     machines = dict(rows_of(room / "fleet.facts", "SELECT name, fault FROM machine WHERE fault IS NOT NULL"))
     wanted = {
         "ENDED": "the process that read it was ended", "LARGE": "there is not enough memory to read it",
-        "pipe": "it is a pipe, which may never end", "long": "it has more than 1,000,000 lines",
+        "pipe": f"cannot read {room}/fleet/pipe/text: it is a pipe, which may never end",
+        "long": "it has more than 1,000,000 lines",
     }
     checks.is_same("those without facts", machines, wanted)
     names = [row[0] for row in rows_of(room / "fleet.facts", "SELECT name FROM machine WHERE fault IS NULL ORDER BY name")]
