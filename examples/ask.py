@@ -34,9 +34,8 @@ def main():
         for row in rows:
             print("\t".join(map(shown, row)))
     except (sqlite3.Error, sqlite3.Warning, ValueError) as fault:
-        print(f"ask: {fault}", file=sys.stderr)
-        sys.exit(1)
+        command.refuse(fault)
 
 
 if __name__ == "__main__":
-    command.run("ask", main)
+    command.run(main)

@@ -98,7 +98,7 @@ def write(folder, made, is_edited):
         texts[os.path.join(folder, file)] = lines.encode("ascii")
     for file, text in texts.items():
         if os.path.lexists(file) and not (os.path.isfile(file) and command.read(file) == text):
-            command.leave(f"asl: {file!r} is there, and may have been changed: remove it, or name another folder")
+            command.leave(f"{file!r} is there, and may have been changed: remove it, or name another folder")
     for file, text in texts.items():
         command.write(file, text)
 
@@ -110,16 +110,16 @@ def main():
     kinds.add_argument("--method", metavar="PATH", type=command.path_of)
     words.add_argument("--tables", metavar="FOLDER")
     asked = words.parse_args()
-    with command.reading("asl", NoListing, f"{asked.listing!r}: "):
+    with command.reading(NoListing, f"{asked.listing!r}: "):
         blocks, made = of_listing(asked)
         more = list(forms.told(asked.tables, blocks)) if asked.tables else []
         write(asked.out, made, asked.edit or asked.method)
     told = [f"{it.table.file[1:-1]}: line {number} of the listing: {what}" for it in made for number, what in it.told]
     for line in (*told, *more):
-        print(f"asl: {line}", file=sys.stderr)
+        command.tell(line)
     if told or more:
         sys.exit(TOLD)
 
 
 if __name__ == "__main__":
-    command.run("asl", main)
+    command.run(main)

@@ -80,16 +80,16 @@ def listing_of(asked):
 
 def main():
     words = command.folder_parser(__doc__)
-    with command.running_it("calls"):
+    with command.running_it():
         run = listing_of(command.parse(words))
     found = list(calls(run.listing))
     for scope, name, count, operator, line in found:
         print(f"{scope}: {name} takes {count}, in {operator}: {line[:SHOWN]}")
     if run.faults:
         bodies = "1 raw body isn't" if len(run.faults) == 1 else f"{len(run.faults)} raw bodies aren't"
-        print(f"calls: {bodies} looked through", file=sys.stderr)
+        command.tell(f"{bodies} looked through")
     sys.exit(3 if found else 0)
 
 
 if __name__ == "__main__":
-    command.run("calls", main)
+    command.run(main)

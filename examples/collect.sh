@@ -61,7 +61,7 @@ if [ $# -lt 2 ] || [ $# -gt 3 ]; then
     exit 2
 fi
 if [ ! -r "$1" ] || [ -d "$1" ]; then
-    echo "collect: cannot read $1" >&2
+    echo "acpidis-collect: cannot read $1" >&2
     exit 2
 fi
 mkdir -p -- "$2" || exit 1

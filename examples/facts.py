@@ -308,25 +308,25 @@ def main() -> None:
     asked = arguments()
     is_one = not os.path.isdir(asked.listing)
     if asked.facts and os.path.lexists(asked.facts) and not (os.path.isfile(asked.facts) and has_facts(asked.facts)):
-        command.leave(f"facts: {asked.facts!r} is there, and has no facts: name another file")
+        command.leave(f"{asked.facts!r} is there, and has no facts: name another file")
     try:
         facts = Facts(Lines() if asked.json else Database(asked.facts))
         add_all(facts, machines_of(asked), 1 if is_one else asked.jobs)
         if not facts.bases["machine"]:
-            sys.exit(f"facts: no listing is in {asked.listing!r}: a file `text` is one, in a folder of each machine")
+            command.refuse(f"no listing is in {asked.listing!r}: a file `text` is one, in a folder of each machine")
         name, fault = facts.lacking[-1] if facts.lacking else ("", "")
         if fault and is_one:
             if fault.startswith("cannot read "):
-                command.leave(f"facts: {fault}")
-            sys.exit(f"facts: {asked.listing!r}: {fault}")
+                command.leave(fault)
+            command.refuse(f"{asked.listing!r}: {fault}")
         facts.sink.close()
     except sqlite3.Error as error:
-        command.leave(f"facts: cannot write {asked.facts!r}: {error}")
+        command.leave(f"cannot write {asked.facts!r}: {error}")
     if fault:
         said_of = f"{len(facts.lacking)} of {facts.bases['machine']} machines without facts; the last, {name}: {fault}"
-        print(f"facts: {said_of}; all: SELECT name, fault FROM machine WHERE fault IS NOT NULL", file=sys.stderr)
+        command.tell(f"{said_of}; all: SELECT name, fault FROM machine WHERE fault IS NOT NULL")
         sys.exit(INCOMPLETE)
 
 
 if __name__ == "__main__":
-    command.run("facts", main)
+    command.run(main)

@@ -254,7 +254,7 @@ def main():
     words = command.folder_parser(__doc__, "[--try] [--externals FILE] ")
     words.add_argument("--try", action="store_true", dest="must_be_one", help="lines only where just one count reads")
     words.add_argument("--externals", metavar="FILE", help="counts that are known already")
-    with command.running_it("missing"):
+    with command.running_it():
         # With --unknown-zero no body waits for a name.
         asked = command.parse(words, ("--externals", "--unknown-zero"))
         given = pathlib.Path(asked.externals).read_text("ascii") if asked.externals else ""
@@ -270,4 +270,4 @@ def main():
 
 
 if __name__ == "__main__":
-    command.run("missing", main)
+    command.run(main)

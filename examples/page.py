@@ -41,7 +41,7 @@ def of_file(file: str, make: Callable[[bytes], Made], most: int, what: str = "is
     try:
         return make(read_file(file, most, f", which are too many for one page{way}"))
     except NoListing as fault:
-        sys.exit(f"page: {file!r} {what}: {fault}")
+        command.refuse(f"{file!r} {what}: {fault}")
 
 
 def sheet_in(text: bytes) -> Sheet:
@@ -83,4 +83,4 @@ def main() -> None:
 
 
 if __name__ == "__main__":
-    command.run("page", main)
+    command.run(main)

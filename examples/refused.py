@@ -331,11 +331,11 @@ def main():
     words = command.folder_parser(__doc__)
     sys.stdout.reconfigure(errors="backslashreplace")
     sys.stderr.reconfigure(errors="backslashreplace")
-    with command.running_it("refused"):
+    with command.running_it():
         said, status = say(command.parse(words))
     print("\n".join(said))
     sys.exit(status)
 
 
 if __name__ == "__main__":
-    command.run("refused", main)
+    command.run(main)

@@ -12,7 +12,6 @@ it; 2 is a command line that is at fault, or a file that can't be read or writte
 """
 
 import difflib
-import sys
 from collections import namedtuple
 
 from acpidis_tools import command
@@ -82,14 +81,14 @@ def main():
     words.add_argument("path", metavar="PATH", type=ends)
     asked = words.parse_args()
     reader = Reader(lambda table, space: ShownBlock(table, space, asked.path))
-    with command.reading("show", NoListing, f"{asked.listing!r}: "):
+    with command.reading(NoListing, f"{asked.listing!r}: "):
         reader.read(asked.listing)
     shown = [it for block in reader.blocks for it in block.shown]
     if not shown:
-        sys.exit(f"show: {asked.listing!r} declares no such path{other(asked.path, reader)}")
+        command.refuse(f"{asked.listing!r} declares no such path{other(asked.path, reader)}")
     for it in shown:
         print(*it.heads, *it.lines, sep="\n")
 
 
 if __name__ == "__main__":
-    command.run("show", main)
+    command.run(main)

@@ -149,7 +149,7 @@ def main():
     for file in filter(None, (asked.output, asked.initrd)):
         if file == "-" or os.path.exists(file) and os.path.samefile(file, asked.dump):
             words.error(f"{file!r} is {'no name of a file' if file == '-' else 'DUMP'}: name another")
-    with command.reading("splice", Refused):
+    with command.reading(Refused):
         table, new = command.read(asked.dump), command.read(asked.new)
         for path in asked.paths:
             table = patched(table, new, path, (asked.dump, asked.new))
@@ -167,4 +167,4 @@ def main():
 
 
 if __name__ == "__main__":
-    command.run("splice", main)
+    command.run(main)

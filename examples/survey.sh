@@ -14,7 +14,7 @@ set -u
 export LC_ALL=C CDPATH=
 
 fail() {
-    echo "survey: $*" >&2
+    echo "acpidis-survey: $*" >&2
     exit 1
 }
 
@@ -190,7 +190,7 @@ ones() {
 report() {
     local missing
     missing=$(left "$1" "$2" | tr -dc '\0' | wc -c)
-    cut -f 2 -- "$2" | sort -n | uniq -c | awk '{ print "survey: status " $2 ": " $1 }' >&2
+    cut -f 2 -- "$2" | sort -n | uniq -c | awk '{ print "acpidis-survey: status " $2 ": " $1 }' >&2
     [ "$missing" = 0 ] || fail "$missing sets have no line: run it again"
 }
 

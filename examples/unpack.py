@@ -138,7 +138,7 @@ def write(folder, tables):
     """Writes the folder as a whole, or not at all."""
     place = os.path.abspath(folder)
     if os.path.lexists(place) and (not os.path.isdir(place) or os.listdir(place)):
-        command.leave(f"unpack: {folder!r} is there, and isn't an empty folder")
+        command.leave(f"{folder!r} is there, and isn't an empty folder")
     names = list(names_of(tables))
     with command.naming(folder):
         part = tempfile.mkdtemp(dir=os.path.dirname(place), prefix=".part")
@@ -159,9 +159,9 @@ def write(folder, tables):
 
 def main():
     asked = command.parser(__doc__, "FILE", "FOLDER").parse_args()
-    with command.reading("unpack", Refused, f"{asked.file!r}: "):
+    with command.reading(Refused, f"{asked.file!r}: "):
         write(asked.folder, tables_of(command.read(asked.file)))
 
 
 if __name__ == "__main__":
-    command.run("unpack", main)
+    command.run(main)

@@ -73,7 +73,7 @@ def check_set(checks, name, dumps, options):
     place = written(checks.room / name / "dumps", {dump.name: dump.data for dump in dumps})
     text, out = checks.text(f"{name}/text", outcome.out), checks.room / name / "out"
     ran = checks.run(ASL, "--tables", place, text, out)
-    told = {line.removeprefix("asl: ").partition(": ")[0] for line in ran.stderr.splitlines()}
+    told = {line.removeprefix("acpidis-asl: ").partition(": ")[0] for line in ran.stderr.splitlines()}
     checks.is_so(f"{name}: {ran.stderr[-500:]}", ran.returncode in (0, 3) and "Traceback" not in ran.stderr)
     made = sorted(out.iterdir(), key=lambda path: path.stat().st_mtime_ns)
     files = dict(zip(re.findall(r'^DefinitionBlock \("(.*)"\) \{$', outcome.out, re.M), made))
@@ -148,18 +148,20 @@ def check_told(checks):
     wide = f"{WIDE} in a table of revision 1, whose integers have 4 bytes"
     for at, (body, what, number, revision) in enumerate([*rows, (*SCOPED, 9, 2), (f"Store ({WIDE}, Local0)", wide, 9, 1)]):
         text = checks.text("told.text", text_with(body, revision))
-        checks.says(body, [ASL, text, f"told{at}"], 3, f"asl: a.dat: line {number} of the listing: {what}\n")
+        checks.says(body, [ASL, text, f"told{at}"], 3, f"acpidis-asl: a.dat: line {number} of the listing: {what}\n")
 
 
 def check_method(checks):
     """Nothing is made of a raw method, of several, or of a path that isn't from the root; and iasl refuses a raw body."""
     raw = checks.text("raw.text", text_with("Raw {A4}"))
     for path, said in METHODS:
-        checks.says(f"--method {path}", [ASL, "--method", path, raw, "method"], 1, f"asl: {str(raw)!r}: {said}\n")
+        words = [ASL, "--method", path, raw, "method"]
+        checks.says(f"--method {path}", words, 1, f"acpidis-asl: {str(raw)!r}: {said}\n")
     checks.is_so("no method is written", not (checks.room / "method").exists())
     twice = checks.text("twice.text", WHOLE[:-2] + "  Method (FOO_, 0, NotSerialized, 0) {\n  }\n}\n")
     said = "it declares \\FOO_ on the lines 8, 11: change the table as a whole, with --edit"
-    checks.says("a method twice", [ASL, "--method", "FOO_", twice, "method"], 1, f"asl: {str(twice)!r}: {said}\n")
+    words = [ASL, "--method", "FOO_", twice, "method"]
+    checks.says("a method twice", words, 1, f"acpidis-asl: {str(twice)!r}: {said}\n")
     for option in ("--edit",), ():
         out = checks.room / f"raw{len(option)}"
         checks.is_same("a raw body is told", checks.run(ASL, *option, raw, out).returncode, 3)
@@ -170,11 +172,11 @@ def check_misread(checks):
     for content, what in MISREAD:
         text = checks.text("misread.text", content)
         for words in ([ASL, text, "misread"], [ASL, "--edit", text, "misread"]):
-            checks.says(content[-300:], words, 1, f"asl: {str(text)!r}: {what}\n")
+            checks.says(content[-300:], words, 1, f"acpidis-asl: {str(text)!r}: {what}\n")
     checks.is_so("nothing is written", not (checks.room / "misread").exists())
-    checks.says("no such text", [ASL, "nowhere", "out"], 2, "asl: 'nowhere': No such file or directory\n")
+    checks.says("no such text", [ASL, "nowhere", "out"], 2, "acpidis-asl: 'nowhere': No such file or directory\n")
     text = checks.text("misread.text", WHOLE)
-    checks.says("a file in the way", [ASL, text, text], 2, f"asl: {str(text)!r}: File exists\n")
+    checks.says("a file in the way", [ASL, text, text], 2, f"acpidis-asl: {str(text)!r}: File exists\n")
     text.write_bytes(WHOLE.replace("\n", "\r\n").encode())
     checks.says("lines as on Windows", [ASL, text, "windows"], 0)
 
@@ -264,7 +266,7 @@ def check_edit(checks):
     checks.text("edit.text", listed(written(checks.room / "edit", VERSIONS["first"])))
     checks.says("--edit", [ASL, "--edit", "edit.text", "edited"], 0)
     checks.says("--edit once more", [ASL, "--edit", "edit.text", "edited"], 0)
-    what = "asl: 'edited/dsdt.dat.asl' is there, and may have been changed: remove it, or name another folder\n"
+    what = "acpidis-asl: 'edited/dsdt.dat.asl' is there, and may have been changed: remove it, or name another folder\n"
     checks.says("without --edit", [ASL, "edit.text", "edited"], 2, what)
     whole = (checks.room / "edited/dsdt.dat.asl").read_text("ascii")
     checks.text("edited/dsdt.dat.asl", whole + "// changed\n")
@@ -332,8 +334,9 @@ def check_splice(checks):
     old, new = "splice/old", "splice/new"
     for words, what in UNSPLICED:
         one, other, path = words.split()
-        checks.says(f"splice {words}", [SPLICE, f"splice/{one}", f"splice/{other}", path], 1, f"splice: {what}\n", "")
-    checks.says("no such file", [SPLICE, old, "none", "NAM1"], 2, "splice: 'none': No such file or directory\n")
+        command = [SPLICE, f"splice/{one}", f"splice/{other}", path]
+        checks.says(f"splice {words}", command, 1, f"acpidis-splice: {what}\n", "")
+    checks.says("no such file", [SPLICE, old, "none", "NAM1"], 2, "acpidis-splice: 'none': No such file or directory\n")
     checks.is_same("no path", checks.run(SPLICE, old, new, "1").returncode, 2)
     for more, file in ((["-o", old], old), (["--initrd", "splice/../splice/old"], "splice/../splice/old"), (["-o", "-"], "-")):
         ran = checks.run(SPLICE, *more, old, new, "NAM1")
@@ -357,7 +360,7 @@ def check_splice(checks):
     wanted = "a package would be longer than a package length can say"
     checks.is_same("a length that no longer fits", said, wanted)
     (checks.room / old).write_bytes(sealed(files["old"][:24] + b"\xFF" * 4 + files["old"][28:]))
-    said = "splice: the OEM revision can't be raised: it is FFFFFFFF\n"
+    said = "acpidis-splice: the OEM revision can't be raised: it is FFFFFFFF\n"
     checks.says("the last revision", [SPLICE, "--oem-revision", old, new, "NAM1"], 1, said)
 
 
@@ -424,9 +427,9 @@ def check_unpack(checks):
         ("title", "DSDT @ 0x0\n", "line 1: DSDT has 0 bytes of its header"),
     ]:  # fmt: skip
         (checks.room / name).write_bytes(content.encode("latin-1"))
-        checks.says(name, [UNPACK, name, f"{name}.d"], 1, f"unpack: {name!r}: {what}\n")
+        checks.says(name, [UNPACK, name, f"{name}.d"], 1, f"acpidis-unpack: {name!r}: {what}\n")
         checks.is_so(f"{name}: nothing is written", not (checks.room / f"{name}.d").exists())
-    said = "unpack: 'plain.d' is there, and isn't an empty folder\n"
+    said = "acpidis-unpack: 'plain.d' is there, and isn't an empty folder\n"
     checks.says("a folder in the way", [UNPACK, "plain", "plain.d"], 2, said)
     check_chain(checks)
     image = b"DSDT\xFF\xFF\x00\x00\1\0TEST  EXAMPLE \1\0\0\0TEST\1\0\0\0" * 30_000 + b"DSDT"
@@ -466,7 +469,7 @@ def check_show(checks):
     text = checks.text("show.text", listed(place))
     for path, wanted in parts_in("shown.txt")[1:]:
         is_there = wanted.startswith("DefinitionBlock")
-        said, shown = ("", wanted + "\n") if is_there else (f"show: {str(text)!r} {wanted}\n", "")
+        said, shown = ("", wanted + "\n") if is_there else (f"acpidis-show: {str(text)!r} {wanted}\n", "")
         checks.says(f"show {path}", [SHOW, text, path], int(not is_there), said, shown)
     heads = checks.run(SHOW, text, "_hid").stdout.count("Name (_HID, ")
     checks.is_same("each _HID", heads, text.read_text().count("Name (_HID, "))
@@ -484,10 +487,10 @@ def check_forms(checks):
     code = code[:2] + bytes([0x40 | length & 15, length >> 4]) + code[4:]
     place = written(checks.room / "forms", tables(code))
     checks.text("forms.text", listed(place))
-    what = "asl: dsdt.dat: 2 of 2 lengths, 1 of 3 names aren't in their shortest form, which iasl writes\n"
+    what = "acpidis-asl: dsdt.dat: 2 of 2 lengths, 1 of 3 names aren't in their shortest form, which iasl writes\n"
     checks.says("forms", [ASL, "--tables", place, "forms.text", "formed"], 3, what)
     (place / "dsdt.dat").write_bytes(table(b"DSDT", b"\x08NAM0\1"))
-    what = f"asl: {str(place / 'dsdt.dat')!r} isn't the dump of this listing: they differ at byte 37\n"
+    what = f"acpidis-asl: {str(place / 'dsdt.dat')!r} isn't the dump of this listing: they differ at byte 37\n"
     checks.says("another dump", [ASL, "--tables", place, "forms.text", "formed"], 2, what)
 
 

@@ -150,7 +150,8 @@ def try_deep(tries):
             tries.is_so(f"{script}, {folder}: {run.returncode}, {run.stderr[-300:]}", is_said)
             tries.is_so(f"{script}, {folder}: {seconds} seconds", seconds < 2)
     found = tries.run("missing.py", "--any-run", "nested").stderr
-    tries.is_so("the line of a deep scope", re.fullmatch("missing: line [0-9]+: a scope of more than 64 segments.*\n", found))
+    said = "acpidis-missing: line [0-9]+: a scope of more than 64 segments.*\n"
+    tries.is_so("the line of a deep scope", re.fullmatch(said, found))
 
 
 def main():

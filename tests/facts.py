@@ -123,7 +123,7 @@ def check_many(checks: Tally, room: pathlib.Path) -> None:
     written(texts / "cut", {"text": b"".join(lines[:20])})
     found = run("--jobs", 2, "--dumps", room / "sets", texts, room / "facts")
     checks.is_same("the status of many machines", (found.returncode, found.stdout), (3, ""))
-    said = 'facts: 2 of 5 machines without facts; the last, none: refused: table "notes": Short; '
+    said = 'acpidis-facts: 2 of 5 machines without facts; the last, none: refused: table "notes": Short; '
     said += "all: SELECT name, fault FROM machine WHERE fault IS NOT NULL\n"
     checks.is_same("what is said of them", found.stderr, said)
     sql = "SELECT dump_sum FROM acpi_table WHERE signature = 'DMAR' AND dump_sum IS NOT NULL"
@@ -241,7 +241,8 @@ def check_words(checks: Tally, room: pathlib.Path) -> None:
     checks.is_same("facts in place of facts", (run(text, out).returncode, out.read_bytes() == kept[out]), (0, False))
     written(room / "listed/none/dumps", {"dsdt.dat": b"DSDT"})
     found = run(room / "listed/none", room / "none")
-    said = f"facts: no listing is in {str(room / 'listed/none')!r}: a file `text` is one, in a folder of each machine\n"
+    said = f"acpidis-facts: no listing is in {str(room / 'listed/none')!r}: "
+    said += "a file `text` is one, in a folder of each machine\n"
     checks.is_same("a folder without a listing", (found.returncode, found.stderr), (1, said))
     checks.fills_disk("facts.py", "--json", text)
     lines = [line for line in (TOP / "docs/facts.md").read_text().splitlines() if line.partition(" ")[0] in COLUMNS]

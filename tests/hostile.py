@@ -88,7 +88,7 @@ def check_texts(checks: Tally, room: pathlib.Path) -> None:
                 spoken.update([script] if printed.tell() or made and made.exists() else [])
             # It took its text, or said in a line why not.
             is_line = said.count("\n") == 1 and len(said) < 500
-            is_word = is_line and said.startswith(f"{script.removesuffix('.py')}: ")
+            is_word = is_line and said.startswith(f"acpidis-{script.removesuffix('.py')}: ")
             is_good = status in (0, 3) or status in (1, 2) and is_word
             checks.is_so(f"{script}, {what}: status {status}, {said[:500]}", is_good)
             checks.is_so(f"{script}, {what}: {seconds:.1f} seconds", seconds < SECONDS)
@@ -117,7 +117,7 @@ def check_outputs(checks: Tally, room: pathlib.Path) -> None:
     checks.fills_disk("facts.py", "--json", text)
     for script in sorted(file.name for file in TOP.glob("examples/*.py")):
         done = run_script(script, "--help", stdout=None, preexec_fn=lambda: os.close(1))
-        said = f"{script.removesuffix('.py')}: cannot write: Bad file descriptor\n"
+        said = f"acpidis-{script.removesuffix('.py')}: cannot write: Bad file descriptor\n"
         checks.is_same(f"{script}, a closed output", (done.returncode, done.stderr), (2, said))
 
 
@@ -132,10 +132,11 @@ def check_files(checks: Tally, room: pathlib.Path) -> None:
         with open(room / "printed", "wb") as printed:
             how = {"stdout": printed, "cwd": room, "preexec_fn": bound, "env": {**os.environ, "PYTHONUNBUFFERED": "1"}}
             done = run_script(script, *words, timeout=20, **how)
-        checks.is_same(row, (done.returncode, done.stderr), (2, f"{script.removesuffix('.py')}: {said}\n"))
+        checks.is_same(row, (done.returncode, done.stderr), (2, f"acpidis-{script.removesuffix('.py')}: {said}\n"))
     for place in ("/dev/stdin", "/proc/self/fd/0"):
         done = run_script("show.py", place, "AAAA", input=(room / "text").read_text())
-        checks.is_same(f"a pipe as {place}", (done.returncode, done.stderr), (1, f"show: {place!r} declares no such path\n"))
+        said = f"acpidis-show: {place!r} declares no such path\n"
+        checks.is_same(f"a pipe as {place}", (done.returncode, done.stderr), (1, said))
     checks.is_same("what is left of the parts", sorted(os.listdir(room)), ["dump", "fifo", "new", "printed", "text"])
 
 

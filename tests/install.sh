@@ -47,9 +47,9 @@ is 'commands find the program' "$(PATH=$prefix/bin:$PATH acpidis-missing "$demo"
 is 'commands find it beside them' "$("$prefix/bin/acpidis-missing" "$demo" 2>&1)" '# no body waits for a name'
 is 'scripts find it' "$("$prefix/share/acpidis/missing.py" "$demo" 2>&1)" '# no body waits for a name'
 is 'the survey finds it' "$(cd "$work" && mkdir beside && cp -r "$demo" beside && "$prefix/bin/acpidis-survey" beside one 2>&1 &&
-    "$prefix/share/acpidis/survey.sh" beside two 2>&1)" "$(printf 'survey: status 0: 1\nsurvey: status 0: 1')"
+    "$prefix/share/acpidis/survey.sh" beside two 2>&1)" "$(printf 'acpidis-survey: status 0: 1\nacpidis-survey: status 0: 1')"
 is 'another program' "$(ACPIDIS=/none/acpidis "$prefix/bin/acpidis-missing" "$demo" 2>&1)" \
-    'missing: no program acpidis: install it, or name it in ACPIDIS'
+    'acpidis-missing: no program acpidis: install it, or name it in ACPIDIS'
 for script in "$top"/examples/*.py "$top"/examples/*.sh; do
     name=${script##*/}
     if [ -x "$script" ]; then
@@ -57,7 +57,7 @@ for script in "$top"/examples/*.py "$top"/examples/*.sh; do
     fi
 done
 is 'the survey as a command' "$(cd "$work" && mkdir -p sets && cp -r "$demo" sets &&
-    PATH=$prefix/bin:$PATH acpidis-survey sets lines 2>&1 && cut -f 1-3 lines)" "$(printf 'survey: status 0: 1\ndemo\t0\t-')"
+    PATH=$prefix/bin:$PATH acpidis-survey sets lines 2>&1 && cut -f 1-3 lines)" "$(printf 'acpidis-survey: status 0: 1\ndemo\t0\t-')"
 is 'pages that the manual names' "$(sed -n 's|.*doc/acpidis/\([a-z_]*\.md\).*|\1|p' "$page" | sort -u |
     while read -r name; do [ -f "$docs/$name" ] || echo "$name"; done)" ''
 is 'commands that the pages name' "$(grep -oh '`acpidis-[a-z]*' "$docs"/*.md | tr -d '`' | sort -u |

@@ -210,7 +210,7 @@ def check_refusals(checks: Checks, outcome: Outcome) -> None:
     }
     for what, text in texts.items():
         run = checks.run("page.py", checks.text("refused", text))
-        got = run.returncode, run.stdout, run.stderr.count("\n"), run.stderr.startswith("page: ")
+        got = run.returncode, run.stdout, run.stderr.count("\n"), run.stderr.startswith("acpidis-page: ")
         checks.is_same(f"{what}, {run.stderr}", got, (1, "", 1, True))
     errors = checks.text("errors", "acpidis: body \\NONE: UnknownName at 1\n")
     for status, words in ((1, ["--errors", errors, checks.text("whole", outcome.out)]), (2, [checks.room / "none"])):

@@ -43,7 +43,7 @@ is 'status of a survey' "$?" 0
 is 'lines' "$(lines results)" "$(cat wanted)"
 is 'seconds' "$(grep -cvP '\t[0-9]+\.[0-9]{3}\t[^\t]+$' results)" 0
 is 'OEMs' "$(cut -f 8 results | LC_ALL=C sort | uniq -c | sed 's/^ *//')" $'15 "TEST  " "EXAMPLE " 00000001\n2 -'
-is 'the report' "$(cat report)" $'survey: status 0: 15\nsurvey: status 1: 2'
+is 'the report' "$(cat report)" $'acpidis-survey: status 0: 15\nacpidis-survey: status 1: 2'
 is 'no name ran' "$(ls -d bad sets/bad 2>/dev/null)" ''
 
 # a second survey runs nothing, one of a line less runs that, and a last line that isn't whole doesn't count
@@ -65,13 +65,13 @@ is 'no sets' "$? $(cat none)" '1 '
 "$survey" sets >/dev/null 2>&1
 is 'too few words' "$?" 1
 mkdir nothing
-is 'results that are no file' "$(timeout 5 "$survey" sets /dev/full 2>&1; echo "$?")" $'survey: /dev/full is no regular file\n1'
+is 'results that are no file' "$(timeout 5 "$survey" sets /dev/full 2>&1; echo "$?")" $'acpidis-survey: /dev/full is no regular file\n1'
 for option in --help --version; do
-    is "$option" "$("$survey" sets none --any-sum $option 2>&1; echo "$?"; cat none)" $'survey: --help and --version check no set\n1'
+    is "$option" "$("$survey" sets none --any-sum $option 2>&1; echo "$?"; cat none)" $'acpidis-survey: --help and --version check no set\n1'
 done
-is 'an empty folder' "$("$survey" nothing none 2>&1; echo "$?")" $'survey: no folder with tables is below nothing\n1'
+is 'an empty folder' "$("$survey" nothing none 2>&1; echo "$?")" $'acpidis-survey: no folder with tables is below nothing\n1'
 is 'a set itself' "$("$survey" sets/text none 2>&1; echo "$?")" \
-    $'survey: no folder with tables is below sets/text\n1'
+    $'acpidis-survey: no folder with tables is below sets/text\n1'
 
 # options are the program's
 mkdir summed
@@ -125,8 +125,8 @@ exit 1
 S
 ACPIDIS=$work/bound.sh "$survey" -s 0.5 -m 100 -j 3 some bound 2>/dev/null
 is 'bounds' "$(cut -f 1-3 bound | sort | head -n 1)" $'1\t1\ttable "dsdt.dat": ModuleCode at 102400 (--any-run was cut off)'
-is 'no number of seconds' "$("$survey" -s x some bound 2>&1; echo "$?")" $'survey: -s takes a number of seconds, not x\n1'
-is 'no number of megabytes' "$("$survey" -m 0 some bound 2>&1; echo "$?")" $'survey: -m takes a number of megabytes, not 0\n1'
+is 'no number of seconds' "$("$survey" -s x some bound 2>&1; echo "$?")" $'acpidis-survey: -s takes a number of seconds, not x\n1'
+is 'no number of megabytes' "$("$survey" -m 0 some bound 2>&1; echo "$?")" $'acpidis-survey: -m takes a number of megabytes, not 0\n1'
 
 # killed in the middle, again and again, with all that it started: each set gets just one line in the end
 mkdir many
@@ -149,7 +149,7 @@ is 'killed in the middle' "$([ "$before" -gt 0 ] && [ "$before" -lt 150 ] && ech
 
 # two surveys of one file don't run beside each other
 : >both
-is 'two at once' "$(flock both "$survey" some both 2>&1)" 'survey: another survey is writing both'
+is 'two at once' "$(flock both "$survey" some both 2>&1)" 'acpidis-survey: another survey is writing both'
 is 'the second writes nothing' "$(cat both)" ''
 
 # the parts of the script, as GNU parallel and xargs use them
@@ -199,7 +199,7 @@ chmod 6755 odd/dsdt.dat
 chmod 2000 odd/shut
 # shellcheck disable=SC2016
 printf '%s\n' good1 dead '# a line' '' late half '-oProxyCommand=touch bad' '../out' 'a b' '$(touch bad)' good2 >hosts
-is 'no hosts' "$("$collect" nowhere collected 2>&1; echo "$?"; ls -d collected 2>/dev/null)" $'collect: cannot read nowhere\n2'
+is 'no hosts' "$("$collect" nowhere collected 2>&1; echo "$?"; ls -d collected 2>/dev/null)" $'acpidis-collect: cannot read nowhere\n2'
 collected() {
     PATH=$work/commands:$PATH COLLECT_SECONDS=1 "$collect" hosts collected 2>errors
 }

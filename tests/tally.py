@@ -66,7 +66,7 @@ class Tally:
         """Whether a script says so whose standard output takes nothing, and ends with status 2."""
         with open("/dev/full", "wb") as full:
             run = run_script(script, *words, stdout=full, **more)
-        said = f"{script.removesuffix('.py')}: cannot write: No space left on device\n"
+        said = f"acpidis-{script.removesuffix('.py')}: cannot write: No space left on device\n"
         self.is_same(f"{script}, a full disk", (run.returncode, run.stderr), (2, said))
 
     def text(self, name: str, text: str) -> pathlib.Path:

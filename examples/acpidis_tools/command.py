@@ -3,6 +3,7 @@
 import argparse
 import contextlib
 import os
+import pathlib
 import re
 import sys
 import tempfile
@@ -10,7 +11,9 @@ import time
 
 from acpidis_tools import listing, running
 
-AT_FAULT = 2
+REFUSED, AT_FAULT = 1, 2
+# The command's name where it is installed, which its messages begin with
+NAME = f"acpidis-{pathlib.Path(sys.argv[0]).stem.removeprefix('acpidis-')}"
 OPTION = re.compile(r"^ {2}(?:-\w, | {4})(--[a-z][a-z-]*)(?: <(\w+)>)?(?= |$)", re.MULTILINE)
 # What comes with these is no listing.
 NO_LISTING = ("--help", "--version", "--check")
@@ -100,7 +103,7 @@ class Progress:
             self.is_shown = False
 
 
-def run(script, main):
+def run(main):
     """Runs the main function of a script, and writes out what it printed. Where a file is at fault, writing fails, or memory
     ends, it ends in a line."""
     try:
@@ -115,31 +118,31 @@ def run(script, main):
         leave()  # who reads it has enough
     except OSError as fault:
         what = repr(os.fsdecode(fault.filename)) if fault.filename else "cannot write"  # standard output has no name
-        leave(f"{script}: {what}: {fault.strerror}")
+        leave(f"{what}: {fault.strerror}")
     except MemoryError:
-        leave(f"{script}: there is not enough memory")
+        leave("there is not enough memory")
     except KeyboardInterrupt:
-        leave(f"{script}: interrupted")
+        leave("interrupted")
 
 
 @contextlib.contextmanager
-def running_it(script):
+def running_it():
     """Ends a script in a line where acpidis refuses the set, or is at fault."""
     try:
         yield
     except running.Refused as fault:
-        sys.exit(f"{script}: the set is refused: {fault}")
+        refuse(f"the set is refused: {fault}")
     except (running.Unusable, ValueError) as fault:
-        leave(f"{script}: {fault}")
+        leave(fault)
 
 
 @contextlib.contextmanager
-def reading(script, refusal, front=""):
+def reading(refusal, front=""):
     """Ends a script in a line where it refuses what it is given."""
     try:
         yield
     except refusal as fault:
-        sys.exit(f"{script}: {front}{fault}")
+        refuse(f"{front}{fault}")
 
 
 def read(file):
@@ -171,9 +174,19 @@ def write(file, data):
             raise
 
 
+def tell(text):
+    print(f"{NAME}: {text}", file=sys.stderr)
+
+
+def refuse(text):
+    """Ends the script, which was given what it doesn't take."""
+    tell(text)
+    sys.exit(REFUSED)
+
+
 def leave(text=""):
     """Ends the script. What standard output didn't take isn't tried again at the end."""
     if text:
-        print(text, file=sys.stderr)
+        tell(text)
     os.dup2(os.open(os.devnull, os.O_WRONLY), 1)
     sys.exit(AT_FAULT)

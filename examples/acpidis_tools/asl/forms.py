@@ -69,7 +69,7 @@ def told(folder, blocks):
         at = reader.read()
         if at < len(code) or next(reader.said, None):
             where = f"they differ at byte {at + aml.HEADER}"
-            command.leave(f"asl: {os.fsdecode(path)!r} isn't the dump of this listing: {where}")
+            command.leave(f"{os.fsdecode(path)!r} isn't the dump of this listing: {where}")
         forms = {"lengths": reader.lengths, "names": reader.names}
         what = ", ".join(f"{sum(it)} of {len(it)} {word}" for word, it in forms.items() if any(it))
         if what:
