@@ -24,7 +24,7 @@ from acpidis_tools.terms import places, terms_in
 SHOWN = 100
 # The operators that may take a method, and none of its values.
 OF_METHODS = ("CondRefOf", "ObjectType", "RefOf")
-COUNT = re.compile(r"(\\\S*) ([0-7])\n?")
+COUNT = re.compile(r"(\\\S*) ([0-7])")
 EXTERNAL = re.compile(rf"External \(({running.NAME.pattern}), \S+, (Zero|One|0x0[0-7])\)")
 # The name that a term of a body declares, a field's unit among them.
 DECLARED = re.compile(
@@ -53,14 +53,13 @@ def calls(text):
 
 def add_given(file, namespace):
     """The counts of the user's file. What a table's External names has the External's count."""
-    with open(file, encoding="ascii") as opened:
-        for number, line in enumerate(opened, 1):
-            form = COUNT.fullmatch(line)
-            if not form or not running.NAME.fullmatch(form[1]):
-                raise running.Unusable(f"line {number} of {file} isn't a path and a count")
-            node = namespace.node(form[1])
-            if node.count is None:
-                node.count = int(form[2])
+    for number, line in enumerate(command.read(file).decode("ascii").splitlines(), 1):
+        form = COUNT.fullmatch(line)
+        if not form or not running.NAME.fullmatch(form[1]):
+            raise running.Unusable(f"line {number} of {file} isn't a path and a count")
+        node = namespace.node(form[1])
+        if node.count is None:
+            node.count = int(form[2])
 
 
 def listing_of(asked):

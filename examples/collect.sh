@@ -64,6 +64,15 @@ if [ ! -r "$1" ] || [ -d "$1" ]; then
     echo "acpidis-collect: cannot read $1" >&2
     exit 2
 fi
+case $1 in
+/dev/* | /proc/*) ;;
+*)
+    if [ -p "$1" ]; then
+        echo "acpidis-collect: $1 is a pipe, which may never end" >&2
+        exit 2
+    fi
+    ;;
+esac
 mkdir -p -- "$2" || exit 1
 SETS=$2
 export SETS

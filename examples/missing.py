@@ -17,7 +17,6 @@ fault.
 import collections
 import concurrent.futures
 import itertools
-import pathlib
 import re
 import sys
 import tempfile
@@ -257,7 +256,7 @@ def main():
     with command.running_it():
         # With --unknown-zero no body waits for a name.
         asked = command.parse(words, ("--externals", "--unknown-zero"))
-        given = pathlib.Path(asked.externals).read_text("ascii") if asked.externals else ""
+        given = command.read(asked.externals).decode("ascii") if asked.externals else ""
         given += "\n" if given and not given.endswith("\n") else ""
         search = Search(running.program(), asked.folder, command.words_of(asked.options), given)
         try:

@@ -126,6 +126,9 @@ S
 ACPIDIS=$work/bound.sh "$survey" -s 0.5 -m 100 -j 3 some bound 2>/dev/null
 is 'bounds' "$(cut -f 1-3 bound | sort | head -n 1)" $'1\t1\ttable "dsdt.dat": ModuleCode at 102400 (--any-run was cut off)'
 is 'no number of seconds' "$("$survey" -s x some bound 2>&1; echo "$?")" $'acpidis-survey: -s takes a number of seconds, not x\n1'
+mkfifo pipe
+is 'counts from a pipe' "$(timeout 9 "$survey" some bound --externals pipe 2>&1; echo "$?")" \
+    $'acpidis-survey: pipe is a pipe, which may never end\n1'
 is 'no number of megabytes' "$("$survey" -m 0 some bound 2>&1; echo "$?")" $'acpidis-survey: -m takes a number of megabytes, not 0\n1'
 
 # killed in the middle, again and again, with all that it started: each set gets just one line in the end
@@ -199,6 +202,8 @@ chmod 6755 odd/dsdt.dat
 chmod 2000 odd/shut
 # shellcheck disable=SC2016
 printf '%s\n' good1 dead '# a line' '' late half '-oProxyCommand=touch bad' '../out' 'a b' '$(touch bad)' good2 >hosts
+is 'hosts from a pipe' "$(timeout 9 "$collect" pipe collected 2>&1; echo "$?")" \
+    $'acpidis-collect: pipe is a pipe, which may never end\n2'
 is 'no hosts' "$("$collect" nowhere collected 2>&1; echo "$?"; ls -d collected 2>/dev/null)" $'acpidis-collect: cannot read nowhere\n2'
 collected() {
     PATH=$work/commands:$PATH COLLECT_SECONDS=1 "$collect" hosts collected 2>errors

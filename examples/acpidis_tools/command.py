@@ -60,6 +60,8 @@ class Keep(argparse.Action):
     """Keeps an option with its value, or with None where it takes none. One with an empty value is as good as none."""
 
     def __call__(self, parser, namespace, values, option_string=None):
+        if self.metavar == "FILE" and os.path.exists(values):
+            listing.check_file(values)  # the program would wait
         if values != "":
             namespace.options = {**namespace.options, self.option_strings[0]: values or None}
 

@@ -34,6 +34,7 @@ OPCODES = (pathlib.Path(__file__).parent / "opcodes.txt").read_text()
 # With what a line of a block begins that is no name: the word of an opcode, a constant, or what stands in a field list
 TERMS = {*re.findall(r"^[0-9A-F]+ (\w+)", OPCODES, re.MULTILINE), "Raw", "Reserved", "Access", "ExtendedAccess", "Connection"}
 BLOCK = re.compile(rf"DefinitionBlock \(({TEXT})\) {{")
+OF_SHELL = ("/dev/stdin", "/dev/fd/", "/dev/null", "/proc/")
 DEFINITION_BLOCKS = ('"DSDT"', '"SSDT"')
 
 Path = tuple[str, ...]
@@ -185,10 +186,17 @@ class Reader:
         return Line(self.at, depth, pieces)
 
 
+def check_file(file: str) -> None:
+    """Refuses a pipe or a device, which may never end, but for standard input and those pipes that a shell made."""
+    mode = os.stat(file).st_mode
+    if not stat.S_ISREG(mode) and not stat.S_ISDIR(mode) and not os.fsdecode(file).startswith(OF_SHELL):
+        what = "pipe" if stat.S_ISFIFO(mode) else "device"
+        raise OSError(errno.EINVAL, f"it is a {what}, which may never end", file)
+
+
 def opened(file: str) -> BinaryIO:
-    """A file, open to be read. A pipe with a name of its own may never end; in /dev and /proc stand those that a shell made."""
-    if stat.S_ISFIFO(os.stat(file).st_mode) and not os.fsdecode(file).startswith(("/dev/", "/proc/")):
-        raise OSError(errno.EINVAL, "it is a pipe, which may never end", file)
+    """A file, open to be read."""
+    check_file(file)
     return open(file, "rb")
 
 
