@@ -35,13 +35,15 @@ for file in bin/acpidis share/man/man1/acpidis.1 $(printf 'share/%s ' $shells) s
 done
 is 'it runs' "$("$prefix/bin/acpidis" "$demo")" "$(cat "$sources/stdout")"
 is 'it is what the launcher runs' "$(cksum <"$prefix/bin/acpidis")" "$(cksum <"$("$top/acpidis" --program)")"
-is 'modes, whatever the umask' "$(modes "$prefix/share")" '644f 755d 755f '
+is 'modes, whatever the umask' "$(modes "$prefix/share")" '644f 755d 755f 777l '
 is 'examples that are run' "$(find "$prefix/share" -type f -perm 755 | wc -l)" \
     "$(find "$top/examples" -type f -perm /111 | wc -l)"
 is 'the mode of the program' "$(stat -c %a "$prefix/bin/acpidis")" 755
 if command -v man >/dev/null; then
     is 'the page is found' "$(man -M "$prefix/share/man" -w acpidis 2>&1)" "$page"
 fi
+is 'each command has it' "$(cd "$prefix/share/man/man1" && grep -lF '.TH ACPIDIS' -- * | sort)" \
+    "$(cd "$prefix/bin" && printf '%s.1\n' acpidis* | sort)"
 docs=$prefix/share/doc/acpidis
 is 'commands find the program' "$(PATH=$prefix/bin:$PATH acpidis-missing "$demo" 2>&1)" '# no body waits for a name'
 is 'commands find it beside them' "$("$prefix/bin/acpidis-missing" "$demo" 2>&1)" '# no body waits for a name'

@@ -90,6 +90,10 @@ for name in copyright made_of.txt; do
 done
 rm "debian/usr/$docs/changelog.gz"
 gunzip debian/usr/share/man/man1/acpidis.1.gz
+for link in debian/usr/share/man/man1/acpidis-*.gz; do
+    to=$(readlink "$link")
+    rm "$link" && ln -s "${to%.gz}" "${link%.gz}"
+done
 sed -i 's|/usr/local/|/usr/|' installed/share/man/man1/acpidis.1
 mv installed/share/zsh/site-functions installed/share/zsh/vendor-completions
 is "Debian's package and ./install have the same" "$(diff -r installed debian/usr 2>&1)" ''

@@ -5,8 +5,8 @@ there.
     python3 tests/pages.py [--no-scripts]
 
 A block that begins with ```console has commands behind `$ `, more lines of theirs behind `> `, and below what they
-print. They run in a folder with `mine`, the set of docs/listing.md, whose text is the first block of that page, with
-`boards`, the sets of tests/made_aml.py, and with `examples`; `./acpidis` is the launcher. Then they run once more as
+print. They run in a folder with the sets of examples/sets, of which `mine` has the first block of docs/listing.md as
+its text, and with `examples`; `./acpidis` is the launcher. Then they run once more as
 the commands of an installed program, `acpidis-page` for `examples/page.py`. README and docs have no more pages and
 words than they may. What pages quote, link to or name stands there: sources, headings, contracts, clauses, wrong
 bodies. The manual page is looked through by mandoc and groff, each where it is installed; options and words are
@@ -23,8 +23,7 @@ import subprocess
 import sys
 import tempfile
 
-from tally import TOP, Tally, executable, written
-from made_aml import SETS, VERSIONS, tables
+from tally import TOP, Tally, executable
 
 LISTING = "docs/listing.md"
 PAGES = ["listing", "tables", "refusals", "any_run", "changing", "many", "facts"]
@@ -37,7 +36,6 @@ MOST_PAGES, MOST_WORDS_OF_PAGES = 15, 24000
 # What pages call a thing that no source names
 MADE_UP = {"draw_copy1", "Lts"}
 SCRIPTS = ["tests/meaning.py", "tests/survey.sh", "tests/install.sh", "tests/examples.py", "tests/library.sh"]
-FOLDERS = {"mine": tables(*SETS["mine"]), **{f"boards/{version}": files for version, files in VERSIONS.items()}}
 
 # In place of ssh: each host has the tables of `mine`, but for one that doesn't answer.
 SSH = """#!/bin/sh
@@ -51,8 +49,6 @@ exec tar -C mine -cf - .
 
 
 def make_room(room, is_installed):
-    for place, files in FOLDERS.items():
-        written(room / place, files)
     commands = {"bin/ssh": SSH}
     if is_installed:
         program = {"PROGRAM": str(TOP / "out/acpidis"), "PREFIX": str(room), "DESTDIR": ""}
@@ -60,6 +56,8 @@ def make_room(room, is_installed):
     else:
         (room / "examples").symlink_to(TOP / "examples")
         commands["acpidis"] = f"#!/bin/sh\nexec '{TOP}/acpidis' \"$@\"\n"
+    sets = room / "share/acpidis/sets" if is_installed else TOP / "examples/sets"
+    shutil.copytree(sets, room, dirs_exist_ok=True)
     for name, text in commands.items():
         executable(room / name, text)
 
