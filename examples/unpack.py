@@ -24,6 +24,8 @@ from acpidis_tools import command
 from acpidis_tools.running import Refused
 
 TITLE = re.compile(r"[> \t]*(RSD PTR|[A-Z0-9!_]{4}) @ 0x([0-9A-Fa-f]{1,16})\s*")
+# What a text ends with that is cut in a title
+CUT_TITLE = re.compile(r"[> \t]*(RSD PTR|[A-Z0-9!_]{4})(?: @?| @ 0?x?)?")
 ROW = re.compile(r"[> \t]*([0-9A-Fa-f]{4,8}): ((?:[0-9A-Fa-f]{2}(?: |$)){1,16})")
 HEADER, ROOT, ROOT_LENGTH, WIDTH = 36, b"RSD PTR ", 20, 16
 # A header as tables in images have them: a signature, a length, a revision, and names of printable bytes.
@@ -51,10 +53,15 @@ def length_of(data):
     return little(data, 4, 4)
 
 
+def cut(where, name, data):
+    whole = length_of(data) if len(data) > 7 else "its header"
+    return Refused(f"{where}: {name} has {len(data)} bytes of {whole}")
+
+
 def dumped(text):
     """The tables of acpidump's text."""
-    tables, title, odd = [], None, 0
-    for number, line in enumerate(text.split("\n"), 1):
+    tables, title, odd, lines = [], None, 0, text.split("\n")
+    for number, line in enumerate(lines, 1):
         found, row = TITLE.fullmatch(line.rstrip("\r")), ROW.match(line.rstrip("\r"))
         if found:
             title = (number, found[1].replace("RSD PTR", "RSDP"), int(found[2], 16))
@@ -72,8 +79,9 @@ def dumped(text):
             odd = odd or number
     for (number, name, _), data in tables:
         if len(data) < 8 or length_of(data) > len(data):
-            whole = length_of(data) if len(data) > 7 else "its header"
-            raise Refused(f"line {number}: {name} has {len(data)} bytes of {whole}")
+            raise cut(f"line {number}", name, data)
+    if tables and not title and CUT_TITLE.fullmatch(line):
+        raise Refused(f"line {len(lines)}: the text ends in the title of a table, {line!r}")
     return [Table(bytes(data), name, address) for (_, name, address), data in tables]
 
 
@@ -81,9 +89,11 @@ def behind_each_other(data):
     """The tables of a file that has nothing else, or none."""
     tables, at = [], 0
     while at < len(data):
-        size = length_of(data[at : at + HEADER])
-        least = ROOT_LENGTH if data.startswith(ROOT, at) else HEADER
-        if not SIGNATURE.match(data, at) and not data.startswith(ROOT, at) or not least <= size <= len(data) - at:
+        size, rest = length_of(data[at : at + HEADER]), len(data) - at
+        is_root, is_named = data.startswith(ROOT, at), SIGNATURE.match(data, at)
+        if tables and is_named and (rest < HEADER or size > rest and HEAD.match(data, at)):
+            raise cut(f"byte {at}", data[at : at + 4].decode(), data[at:])
+        if not (is_root or is_named) or not (ROOT_LENGTH if is_root else HEADER) <= size <= rest:
             return []
         tables.append(plain(data[at : at + size]))
         at += size

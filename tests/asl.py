@@ -425,6 +425,9 @@ def check_unpack(checks):
         ("half a row", re.sub("0010: (.. .. )..", r"0010: \1??", text), half),
         ("truncated", dsdt[:-1].decode("latin-1"), "DSDT has 41 bytes of 42"),
         ("title", "DSDT @ 0x0\n", "line 1: DSDT has 0 bytes of its header"),
+        ("cut title", text[: text.index(" @ 0x", 9) + 5], "line 6: the text ends in the title of a table, 'SSDT @ 0x'"),
+        ("cut behind", (dsdt + dsdt[:-1]).decode("latin-1"), "byte 42: DSDT has 41 bytes of 42"),
+        ("cut header", (dsdt + ssdt[:7]).decode("latin-1"), "byte 42: SSDT has 7 bytes of its header"),
     ]:  # fmt: skip
         (checks.room / name).write_bytes(content.encode("latin-1"))
         checks.says(name, [UNPACK, name, f"{name}.d"], 1, f"acpidis-unpack: {name!r}: {what}\n")
