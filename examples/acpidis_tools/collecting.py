@@ -38,6 +38,7 @@ STATEMENTS = {
 }  # fmt: skip
 LONGEST_STATEMENT = 1_000
 SOURCE, SPEED = re.compile(r"(\\|\^*)([A-Z_][A-Z0-9_]{0,3}(?:\.[A-Z_][A-Z0-9_]{0,3})*)"), re.compile(r"([0-9]+) (?:Hz|baud)")
+PINNED = ("GpioInt", "GpioIo", "PinFunction", "PinConfig", "PinGroup")
 INTERRUPTS = ("IRQ", "IRQNoFlags", "Interrupt", "GpioInt")
 CONSTANT_WORD = re.compile(r'"|0x|(?:Zero|Ones?|Revision)$')
 TOKEN = re.compile(r'"[^"]*"|[(){},]|[^"(){},]+')
@@ -351,11 +352,13 @@ class Collector:
         is_declared = line.declared is not None and line.term not in FIELD_LISTS
         object_path = self.declared(line)[2] if is_declared else path_text(line.scope)
         for one, patches in [pair for it in templates for pair in zip(it.descriptors, it.patches)]:
-            self.add(
+            resource = self.add(
                 "resource", device, object_path, one.kind, small(one.first), small(one.last), small(one.length),
                 ", ".join(map(str, one.lines)) or None, self.controller(one.source, line.scope), *wires_of(one), one.text,
                 ", ".join(dict.fromkeys(patches)) or None, self.file, line.number,
             )
+            for pin in one.lines if one.kind in PINNED else ():
+                self.add("pin", resource, pin)
 
     def controller(self, source: str, scope: Path) -> str | None:
         """The path that the name of a source means, which counts from the device around (6.4.3.8)."""

@@ -42,8 +42,11 @@ CREATE TABLE field (
 CREATE TABLE resource (
     id INTEGER PRIMARY KEY, code INTEGER NOT NULL REFERENCES code, device INTEGER REFERENCES name, object TEXT NOT NULL,
     kind TEXT NOT NULL, first INTEGER, last INTEGER, length INTEGER, lines TEXT, controller TEXT, speed INTEGER, trigger TEXT,
-    polarity TEXT, text TEXT NOT NULL, patched_by TEXT,
-    file TEXT NOT NULL, line INTEGER NOT NULL
+    polarity TEXT, text TEXT NOT NULL, patched_by TEXT, file TEXT NOT NULL, line INTEGER NOT NULL
+);
+CREATE TABLE pin (
+    id INTEGER PRIMARY KEY, code INTEGER NOT NULL REFERENCES code, resource INTEGER NOT NULL REFERENCES resource,
+    number INTEGER NOT NULL
 );
 CREATE TABLE statement (
     id INTEGER PRIMARY KEY, code INTEGER NOT NULL REFERENCES code, method INTEGER REFERENCES method, scope TEXT NOT NULL,
@@ -70,5 +73,7 @@ CREATE INDEX region_by_place ON region (space, first);
 CREATE INDEX field_by_region ON field (region);
 CREATE INDEX field_by_name ON field (name);
 CREATE INDEX resource_by_device ON resource (device);
+CREATE INDEX pin_by_resource ON pin (resource);
+CREATE INDEX pin_by_number ON pin (number);
 CREATE INDEX statement_by_kind ON statement (kind, number);
 CREATE INDEX identifier_by_text ON identifier (text);
