@@ -110,7 +110,7 @@ def main():
     kinds.add_argument("--method", metavar="PATH", type=command.path_of)
     words.add_argument("--tables", metavar="FOLDER")
     asked = words.parse_args()
-    with command.reading(NoListing, f"{asked.listing!r}: "):
+    with command.reading(asked.listing):
         blocks, made = of_listing(asked)
         more = list(forms.told(asked.tables, blocks)) if asked.tables else []
         write(asked.out, made, asked.edit or asked.method)

@@ -78,9 +78,7 @@ def listing_of(asked):
 
 
 def main():
-    words = command.folder_parser(__doc__)
-    with command.running_it():
-        run = listing_of(command.parse(words))
+    run = listing_of(command.parse(command.folder_parser(__doc__)))
     found = list(calls(run.listing))
     for scope, name, count, operator, line in found:
         print(f"{scope}: {name} takes {count}, in {operator}: {line[:SHOWN]}")

@@ -253,19 +253,18 @@ def main():
     words = command.folder_parser(__doc__, "[--try] [--externals FILE] ")
     words.add_argument("--try", action="store_true", dest="must_be_one", help="lines only where just one count reads")
     words.add_argument("--externals", metavar="FILE", help="counts that are known already")
-    with command.running_it():
-        # With --unknown-zero no body waits for a name.
-        asked = command.parse(words, ("--externals", "--unknown-zero"))
-        given = command.read(asked.externals).decode("ascii") if asked.externals else ""
-        given += "\n" if given and not given.endswith("\n") else ""
-        search = Search(running.program(), asked.folder, command.words_of(asked.options), given)
-        try:
-            left, all_trials = search.go(), search.settle()
-        finally:
-            search.progress.end()
-        show(search, all_trials, asked.must_be_one)
-        for body in left:  # those that no count mends
-            say(f"{body.path} stays raw: {body.fault}")
+    # With --unknown-zero no body waits for a name.
+    asked = command.parse(words, ("--externals", "--unknown-zero"))
+    given = command.read(asked.externals).decode("ascii") if asked.externals else ""
+    given += "\n" if given and not given.endswith("\n") else ""
+    search = Search(running.program(), asked.folder, command.words_of(asked.options), given)
+    try:
+        left, all_trials = search.go(), search.settle()
+    finally:
+        search.progress.end()
+    show(search, all_trials, asked.must_be_one)
+    for body in left:  # those that no count mends
+        say(f"{body.path} stays raw: {body.fault}")
 
 
 if __name__ == "__main__":

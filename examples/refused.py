@@ -328,11 +328,9 @@ def say(asked):
 
 
 def main():
-    words = command.folder_parser(__doc__)
     sys.stdout.reconfigure(errors="backslashreplace")
     sys.stderr.reconfigure(errors="backslashreplace")
-    with command.running_it():
-        said, status = say(command.parse(words))
+    said, status = say(command.parse(command.folder_parser(__doc__)))
     print("\n".join(said))
     sys.exit(status)
 

@@ -18,7 +18,6 @@ from acpidis_tools import command
 from acpidis_tools.asl.blocks import Block, Reader
 from acpidis_tools.asl.fields import UNIT
 from acpidis_tools.decoding import bits_text
-from acpidis_tools.listing import NoListing
 
 MOST_LIKE = 8
 
@@ -81,7 +80,7 @@ def main():
     words.add_argument("path", metavar="PATH", type=ends)
     asked = words.parse_args()
     reader = Reader(lambda table, space: ShownBlock(table, space, asked.path))
-    with command.reading(NoListing, f"{asked.listing!r}: "):
+    with command.reading(asked.listing):
         reader.read(asked.listing)
     shown = [it for block in reader.blocks for it in block.shown]
     if not shown:

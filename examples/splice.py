@@ -149,21 +149,20 @@ def main():
     for file in filter(None, (asked.output, asked.initrd)):
         if file == "-" or os.path.exists(file) and os.path.samefile(file, asked.dump):
             words.error(f"{file!r} is {'no name of a file' if file == '-' else 'DUMP'}: name another")
-    with command.reading(Refused):
-        table, new = command.read(asked.dump), command.read(asked.new)
-        for path in asked.paths:
-            table = patched(table, new, path, (asked.dump, asked.new))
-        if asked.oem_revision:
-            revision = int.from_bytes(table[OEM_REVISION : OEM_REVISION + 4], "little") + 1
-            if revision >> 32:
-                raise Refused("the OEM revision can't be raised: it is FFFFFFFF")
-            table = sealed(table[:OEM_REVISION] + revision.to_bytes(4, "little") + table[OEM_REVISION + 4 :])
-        if asked.initrd:
-            command.write(asked.initrd, archive(table))
-        if asked.output:
-            command.write(asked.output, table)
-            return
-    sys.stdout.buffer.write(table)
+    table, new = command.read(asked.dump), command.read(asked.new)
+    for path in asked.paths:
+        table = patched(table, new, path, (asked.dump, asked.new))
+    if asked.oem_revision:
+        revision = int.from_bytes(table[OEM_REVISION : OEM_REVISION + 4], "little") + 1
+        if revision >> 32:
+            raise Refused("the OEM revision can't be raised: it is FFFFFFFF")
+        table = sealed(table[:OEM_REVISION] + revision.to_bytes(4, "little") + table[OEM_REVISION + 4 :])
+    if asked.initrd:
+        command.write(asked.initrd, archive(table))
+    if asked.output:
+        command.write(asked.output, table)
+    else:
+        sys.stdout.buffer.write(table)
 
 
 if __name__ == "__main__":

@@ -169,7 +169,7 @@ def write(folder, tables):
 
 def main():
     asked = command.parser(__doc__, "FILE", "FOLDER").parse_args()
-    with command.reading(Refused, f"{asked.file!r}: "):
+    with command.reading(asked.file):
         write(asked.folder, tables_of(command.read(asked.file)))
 
 

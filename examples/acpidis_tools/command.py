@@ -121,6 +121,10 @@ def run(main):
     except OSError as fault:
         what = repr(os.fsdecode(fault.filename)) if fault.filename else "cannot write"  # standard output has no name
         leave(f"{what}: {fault.strerror}")
+    except running.Refused as fault:
+        refuse(fault)
+    except (running.Unusable, UnicodeError) as fault:
+        leave(fault)
     except MemoryError:
         leave("there is not enough memory")
     except KeyboardInterrupt:
@@ -128,23 +132,12 @@ def run(main):
 
 
 @contextlib.contextmanager
-def running_it():
-    """Ends a script in a line where acpidis refuses the set, or is at fault."""
+def reading(file):
+    """Names the file of which comes why it is refused."""
     try:
         yield
-    except running.Refused as fault:
-        refuse(f"the set is refused: {fault}")
-    except (running.Unusable, ValueError) as fault:
-        leave(fault)
-
-
-@contextlib.contextmanager
-def reading(refusal, front=""):
-    """Ends a script in a line where it refuses what it is given."""
-    try:
-        yield
-    except refusal as fault:
-        refuse(f"{front}{fault}")
+    except (listing.NoListing, running.Refused) as fault:
+        refuse(f"{file!r}: {fault}")
 
 
 def read(file):

@@ -46,7 +46,7 @@ class Refused(Exception):
 def refused(line, options):
     """The refusal of a set for this line. Where it was run without --any-run, which may read the set, it says so."""
     is_read = BY_ANY_RUN.fullmatch(line) and "--any-run" not in options
-    return Refused(line + "; --any-run may read it" * bool(is_read))
+    return Refused(f"the set is refused: {line}" + "; --any-run may read it" * bool(is_read))
 
 
 def command():
