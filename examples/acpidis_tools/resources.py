@@ -5,7 +5,7 @@ from __future__ import annotations
 from collections import namedtuple
 from functools import partial
 
-from acpidis_tools.standard import space_name
+from acpidis_tools.standard import WORDS, space_name
 
 # Where the content of a descriptor begins.
 SMALL, LARGE = 1, 3
@@ -139,9 +139,7 @@ def register(data: Bytes) -> Descriptor:
 
 # ---- address spaces (6.4.3.5)
 
-SPACE_KINDS = ("Memory", "IO", "BusNumber")
-CACHING = ("not cacheable", "", "write-combining", "prefetchable")
-MEMORY_TYPES = ("", "reserved", "ACPI data", "NVS")
+SPACE_KINDS, CACHING, MEMORY_TYPES = (WORDS[name] for name in ("SPACE_KINDS", "CACHING", "MEMORY_TYPES"))
 IO_RANGES = ("no range", "non-ISA range", "ISA range", "")
 
 
@@ -172,10 +170,8 @@ def specific_words(kind: int, kept: int) -> tuple:
 
 # ---- interrupts, pins and buses (6.4.3.6, 6.4.3.8 to 6.4.3.14)
 
-PULLS = ("", "pull up", "pull down", "no pull")
-RESTRICTIONS = ("", "input", "output", "preserved")
-STOPS, FLOWS = ("no stop bits", "", "1.5 stop bits", "2 stop bits"), ("", "hardware flow control", "XON/XOFF", "flow control 3")
-PARITIES = ("", "even parity", "odd parity", "mark parity", "space parity")
+PULLS, RESTRICTIONS = WORDS["PULLS"], WORDS["RESTRICTIONS"]
+STOPS, FLOWS, PARITIES = WORDS["STOPS"], WORDS["FLOWS"], WORDS["PARITIES"]
 
 
 def interrupt(data: Bytes) -> Descriptor:

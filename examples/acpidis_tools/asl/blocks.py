@@ -3,7 +3,7 @@
 import re
 from collections import namedtuple
 
-from acpidis_tools import listing, running
+from acpidis_tools import command, listing, running
 from acpidis_tools.asl import fields, language, terms
 from acpidis_tools.asl.names import Externals, Names, Scope, Use
 
@@ -152,8 +152,7 @@ class Reader:
 
     def read(self, file):
         """Reads the listing of a file."""
-        with listing.opened(file) as opened:
-            lines = listing.reader_of(opened.read())
+        lines = listing.reader_of(command.read(file))
         dumps = lines.dumps()
         forms = [(dump, TABLE.fullmatch(dump.text)) for dump in dumps]
         tables = {dump.file: Table(dump.number, *form.groups()) for dump, form in forms if form}

@@ -5,6 +5,7 @@ from __future__ import annotations
 
 import base64
 import zlib
+from collections.abc import Callable, Iterator
 from dataclasses import dataclass, field
 from html import escape
 
@@ -72,23 +73,32 @@ class Sheet:
 
     def lines_at(self, wanted: Path) -> set[int]:
         """The lines at and below a path, with the heads and ends of the blocks that they stand in."""
+
+        def is_wanted(line: Line) -> bool:
+            # The paths that it declares, or opens
+            sorts = [Sort.DECLARES, Sort.AGAIN] + [Sort.LEADS] * (line.term == "Scope")
+            paths = (it.path for it in self.names.meanings[line.number] if it.sort in sorts)
+            return any(path is not None and path[:len(wanted)] == wanted for path in paths)
+
         found: set[int] = set()
+        for heads, lines in self.parts(is_wanted):
+            found.update(line.number for line in lines)
+            found.update(number for head in heads for number in (head.number, head.end))
+        return found
+
+    def parts(self, is_wanted: Callable[[Line], bool]) -> Iterator[tuple[list[Line], list[Line]]]:
+        """The lines that are wanted, each with what is in its block, behind the heads of the blocks around."""
         for block in self.listing.blocks:
             opened: list[Line] = []
             kept_to = 0
-            for line in block.lines:
+            for place, line in enumerate(block.lines):
                 while opened and line.number > opened[-1].end:
                     opened.pop()
-                # The paths that it declares, or opens
-                sorts = [Sort.DECLARES, Sort.AGAIN] + [Sort.LEADS] * (line.term == "Scope")
-                paths = [it.path for it in self.names.meanings[line.number] if it.sort in sorts]
-                if line.number <= kept_to or any(path is not None and path[:len(wanted)] == wanted for path in paths):
-                    kept_to = max(kept_to, line.end)
-                    found.add(line.number)
-                    found.update(number for head in opened for number in (head.number, head.end))
+                if line.number > kept_to and is_wanted(line):
+                    kept_to = max(line.number, line.end)
+                    yield opened.copy(), block.lines[place : place + kept_to - line.number + 1]
                 if line.end:
                     opened.append(line)
-        return found
 
 
 def link(path: Path) -> str:
