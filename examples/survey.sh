@@ -213,6 +213,9 @@ survey() {
     report "$sets" "$results"
 }
 
+for word; do
+    [ ! -p "${word#--externals=}" ] || fail "${word#--externals=} is a pipe, which may never end"
+done
 jobs=$(nproc 2>/dev/null) || jobs=1
 case ${1-} in
 -h | --help)
@@ -240,8 +243,5 @@ case $jobs in '' | 0* | *[!0-9]*) fail "-j takes a number of jobs, not $jobs" ;;
 case ${SURVEY_SECONDS-600} in '' | 0 | . | *[!0-9.]* | *.*.*) fail "-s takes a number of seconds, not $SURVEY_SECONDS" ;; esac
 case ${SURVEY_MEGABYTES-} in 0* | *[!0-9]*) fail "-m takes a number of megabytes, not $SURVEY_MEGABYTES" ;; esac
 [ $# -ge 2 ] || fail "usage: ${0##*/} [-j JOBS] [-s SECONDS] [-m MEGABYTES] SETS RESULTS [OPTION..]"
-for word in "${@:3}"; do
-    [ ! -p "${word#--externals=}" ] || fail "${word#--externals=} is a pipe, which may never end"
-done
 case " ${*:3} " in *' --help '* | *' -h '* | *' --version '* | *' -V '*) fail '--help and --version check no set' ;; esac
 survey "$@"

@@ -143,9 +143,6 @@ class Decoder:
                     found[place].append(name)
         return found
 
-    def uuids(self, line: Line) -> list[str]:
-        return [text for term in self.buffers(line) for text in [uuid_text(term.braced)] if text]
-
     def rows(self, line: Line) -> list[str]:
         """What the value of a predefined object says, which a line declares or returns."""
         if line.term not in ("Name", "Return") or len(line.words) < 2:
@@ -176,7 +173,7 @@ class Decoder:
     def notes(self, line: Line) -> list[str]:
         """What to say behind a line, in a few words each."""
         notes = [note for note in map(with_name, self.identifiers(line)) if f'"{note}"' not in line.words]
-        notes += [uuid_with_name(text) for text in self.uuids(line)]
+        notes += [uuid_with_name(text) for text in (uuid_text(term.braced) for term in self.buffers(line)) if text]
         if line.number in self.units:
             unit = self.units[line.number]
             notes.append(bits_text(unit.bit, unit.width))
@@ -203,6 +200,7 @@ class Decoder:
         if form and line.term == "Method":
             return [f"{EVENTS[form[1]]} 0x{form[2]}"]
         return [PREDEFINED_NAMES[name]] if name in PREDEFINED_NAMES and not has_identifier else []
+
 
 def hardware_name(line: Line) -> str | None:
     """_HID or _CID, where a line gives the value of such an object: declared so, or returned by such a method."""

@@ -2,8 +2,8 @@
 
 from acpidis_tools.standard import WORDS, tables_in
 
-# The numbers of iasl's messages that are turned off, with what each says; those where the text isn't to be changed; and the
-# type of an External by the kind of a row, where it is known
+# The numbers of iasl's messages that are turned off, with what each says; those where the text isn't to be changed; and
+# the type of an External by the kind of a row, where it is known
 OFF, OFF_UNCHANGED, OBJECT_OF = tables_in("asl/messages.txt")
 
 # The attributes of an access that have a length behind them.
