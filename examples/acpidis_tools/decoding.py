@@ -143,6 +143,9 @@ class Decoder:
                     found[place].append(name)
         return found
 
+    def uuids(self, line: Line) -> list[str]:
+        return [text for term in self.buffers(line) for text in [uuid_text(term.braced)] if text]
+
     def rows(self, line: Line) -> list[str]:
         """What the value of a predefined object says, which a line declares or returns."""
         if line.term not in ("Name", "Return") or len(line.words) < 2:
@@ -173,7 +176,7 @@ class Decoder:
     def notes(self, line: Line) -> list[str]:
         """What to say behind a line, in a few words each."""
         notes = [note for note in map(with_name, self.identifiers(line)) if f'"{note}"' not in line.words]
-        notes += [uuid_with_name(text) for text in (uuid_text(term.braced) for term in self.buffers(line)) if text]
+        notes += [uuid_with_name(text) for text in self.uuids(line)]
         if line.number in self.units:
             unit = self.units[line.number]
             notes.append(bits_text(unit.bit, unit.width))
