@@ -27,7 +27,8 @@ from acpidis_tools.listing import NoListing
 from dumps import aml_of, dumps_of
 from folders import read_folder
 from hostile import head_of, mutated, repeated, text_of
-from loading import load, path_text
+from any_run import load
+from loading import path_text
 from made_aml import SETS, VERSIONS, device, method, scope, table, tables
 from made_code import shortest
 from made_plain import PlainMaker

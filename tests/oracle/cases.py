@@ -12,8 +12,8 @@ import sys
 import trying  # noqa: F401
 from dumps import RECORDS, Bad, Dump, addresses_of, little, order_of, records_of
 from folders import LineFault, parse_externals, parse_map
-from any_run import RunNamespace
-from loading import Body, Namespace, path_text
+from any_run import Namespace
+from loading import Body, path_text
 from made_sets import sealed
 from printing import hexadecimal, row_text, term_lines
 from reading import IF, METHOD, Name, Op, Reader, Refused
@@ -163,6 +163,12 @@ def declaration_of(words):
     return name_of(path), ("Method", int(more[0])) if word == "Method" else (word,)
 
 
+def first_count(names, path):
+    """The count of what is declared first at a path, with that of the target of an open Alias too, or of Externals."""
+    kind = names.kind(path)
+    return names.counts_of((*kind[:2], False))[0] if kind else names.externals.get(path)
+
+
 def kind_text(names, path):
     kind = names.kind(path)
     return or_none(kind and row_text(path, kind))
@@ -176,7 +182,7 @@ OF_PATH = {
     ],
     "scope": lambda names, path: ["a scope" if names.is_sure(path) and names.is_scope(path) else "no scope"],
     "alias": lambda names, path: ["open" if names.alias_of(path)[2] else "not open"],
-    "count": lambda names, path: or_none(names.count(path)),
+    "count": lambda names, path: or_none(first_count(names, path)),
     "kind": kind_text,
     "counted": lambda names, path: [*kind_text(names, path), "few comparisons"],
 }
@@ -184,9 +190,9 @@ OF_PATH = {
 # declarations, in every run, and in the body.
 OF_NAME = {
     "place": lambda _, scope, name, __: path_or_none(name.placed(scope)),
-    "find": lambda names, scope, name, _: path_or_none(Namespace.find(names, scope, name)),
+    "find": lambda names, scope, name, _: path_or_none(names.first(scope, name)),
     "lead": lambda names, scope, name, _: path_or_none(names.find(scope, name)),
-    "search": lambda names, scope, name, declared: path_or_none(Namespace.find(names, scope, name, declared)),
+    "search": lambda names, scope, name, declared: path_or_none(names.first(scope, name, declared)),
     "arity": lambda names, scope, name, declared: or_none(names.arity(scope)(declared, name)),
     "arity_unknown_zero": lambda names, scope, name, declared: or_none(names.arity(scope, True)(declared, name)),
 }
@@ -201,7 +207,7 @@ class Rows:
 
     def __init__(self):
         self.dumps, self.given = [], []
-        self.names, self.declared = RunNamespace(), set()
+        self.names, self.declared = Namespace(), set()
 
     def answer(self, row):
         """The lines that stand below a row."""
@@ -266,7 +272,7 @@ class Rows:
             case "method":
                 return text_of(Reader(data, self.names.arity(path_of(words)), path_of(words)))
             case "space":
-                self.names, self.declared = RunNamespace(), set()
+                self.names, self.declared = Namespace(), set()
             case "declare" | "again" | "maybe":
                 name, declared = declaration_of(words)
                 if kind == "declare" and tuple(name.segs) in self.names.declarations:

@@ -5,7 +5,7 @@ names that only may stand, Aliases of what may be another Alias, and counts that
 import contextlib
 import functools
 
-from any_run import RunNamespace
+from any_run import Namespace
 from made_code import ARGUMENT_COUNTS, IN_DEEP_TABLES, IN_TABLES, MOST_DEPTH, MOST_SEGMENTS, Maker
 from reading import ALIAS, ELSE, EXTERNAL, IF, KINDS, METHOD, MOST_LEVELS, RETURN, ROWS, SCOPES, Name
 
@@ -25,7 +25,7 @@ class RunMaker(Maker):
 
     def __init__(self, chance, gives=False, segments=0):
         super().__init__(chance, gives, segments)
-        self.space, self.is_sure, self.opened_is_sure = RunNamespace(), True, True
+        self.space, self.is_sure, self.opened_is_sure = Namespace(), True, True
         self.opcode, self.alias_source, self.in_declaration = None, (), False
         if gives:
             self.given = {path: count for path, count in self.methods.items() if self.happens(0.4)}

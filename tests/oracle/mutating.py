@@ -7,10 +7,9 @@ import re
 from collections import namedtuple
 from dataclasses import dataclass
 
-from any_run import RunNamespace, RunReader
+from any_run import Namespace, RunReader, load
 from dumps import HEADER_LENGTH
 from folders import MAP_NAME
-from loading import load
 from made_code import LIKELY_BYTES, WIDEST, damaged, package_length
 from made_sets import BLOCKS, Trial, sealed
 from reading import EXTERNAL, METHOD, ROWS, Reader, Refused, is_name_lead
@@ -79,7 +78,7 @@ def layouts_of(codes, any_run=False):
     """The layouts of a tuple of tables in load order, with the bodies of their methods where all of them load; with code
     outside methods, of the methods before a fault."""
     layouts = [Layout() for _ in codes]
-    space = RunNamespace()
+    space = Namespace()
     for table, (code, layout) in enumerate(zip(codes, layouts)):
         how = {"space": space, "table": table} if any_run else {}
         (RunSurveyor if any_run else Surveyor)(code, layout=layout, **how).survey()
