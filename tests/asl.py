@@ -21,12 +21,9 @@ import subprocess
 from tally import DEMO, PROGRAM, Tally, asked, parts_in, tables_in, timed, written
 import hostile_shapes as shapes
 import splice
-from acpidis_tools.asl.blocks import Block, Reader
-from acpidis_tools.asl.names import said_by
-from acpidis_tools.listing import NoListing
 from dumps import aml_of, dumps_of
 from folders import read_folder
-from hostile import head_of, mutated, repeated, text_of
+from hostile import SAMPLES, head_of, repeated, text_of
 from any_run import load
 from loading import path_text
 from made_aml import SETS, VERSIONS, device, method, scope, table, tables
@@ -36,13 +33,11 @@ from made_sets import sealed
 from printing import file_text
 from reading import Name
 from running import REFUSED, Options, run
-from telling import HOSTILE_FILES, PAGES_FILES, RUNS_FILES
 
 ASL, SPLICE, UNPACK, SHOW = "asl.py", "splice.py", "unpack.py", "show.py"
 IASL, ACPIXTRACT = shutil.which("iasl"), shutil.which("acpixtract")
 HEADER, MOST_GROWN, GROWN = 36, 70_000, 150
 NOOP = b"\xA3"
-SAMPLES = {"pages": PAGES_FILES, "hostile": HOSTILE_FILES, "runs": RUNS_FILES, **VERSIONS}
 
 
 class Checks(Tally):
@@ -111,7 +106,7 @@ SCOPED = "FOO_ (One)\n  }\n  Scope (FOO_) {", "FOO_ as a call, where nothing say
 WIDE = "0x1122334455667788"
 WHOLE = text_of(ROWS, ["Method (FOO_, 1, NotSerialized, 0) {", "  Noop", "}"], "a.dat")
 BLOCK = WHOLE[WHOLE.index("DefinitionBlock") :]
-BODIES, UNITS, CHANGES, UNSPLICED = ([row.split("  # ") for row in rows] for rows in tables_in("unspelled.txt"))
+BODIES, UNITS, CHANGES, UNSPLICED, METHODS = ([row.split("  # ") for row in rows] for rows in tables_in("unspelled.txt"))
 
 
 def changed(change):
@@ -120,12 +115,6 @@ def changed(change):
     return WHOLE.replace(old, new.replace("\\n", "\n    "))
 
 
-# Paths of which asl.py makes no method, and what it says of them where \\FOO_ is raw.
-METHODS = [
-    ("FOO_", "line 8: the body of \\FOO_ is raw: it has no terms to be changed"),
-    ("NONE", "it declares no method \\NONE"), ("BAR_", "it declares no method \\BAR_"),
-    ("_STA", "it declares no method \\_STA: name it from the root, as \\DEV0._STA; acpidis-show has all that end so"),
-]  # fmt: skip
 # Texts that are no listings, with what is said of them.
 MISREAD = [
     ("", "it is empty"),
@@ -203,30 +192,6 @@ def check_speed(checks):
         text = checks.text(f"{size}.text", head + lines)
         times.append(timed(checks.run, ASL, "--edit", text, f"of{size}", most=most)[1])
     checks.is_so(f"seconds of 1 MB and 4 MB: {times}", times[0] < 6 and times[1] < 8 * times[0])
-
-
-def fault_of(path):
-    """What becomes of a text: nothing where it is read, that it is no listing, or another fault."""
-    reader = Reader(lambda table, space: Block(table, space, True))
-    try:
-        reader.read(path)
-        [block.text(reader.rows, said_by(reader.blocks)) for block in reader.blocks]
-    except NoListing:
-        return NoListing
-    except Exception as fault:  # whatever it is, it fails the check
-        return f"{path}: {fault!r}"
-
-
-def check_mutations(checks):
-    """Damaged listings are read, or are no listings."""
-    outcomes = [run(dumps_of(files), Options(any_run=True)) for files in SAMPLES.values()]
-    dice, faults = random.Random(0), []
-    for number in range(500):
-        text = mutated(outcomes[number % len(outcomes)].out.splitlines(), dice)
-        faults.append(fault_of(checks.text("mutated", text)))
-    checks.is_same("mutations", [fault for fault in faults if fault not in (None, NoListing)], [])
-    refused = faults.count(NoListing)
-    checks.is_so(f"{refused} are no listings", 20 < refused < 480)
 
 
 # ---- one method, changed
@@ -493,7 +458,7 @@ def check_forms(checks):
 
 
 CHECKS = (
-    check_forms, check_told, check_method, check_misread, check_mutations, check_names, check_speed, check_splice, check_unpack,
+    check_forms, check_told, check_method, check_misread, check_names, check_speed, check_splice, check_unpack,
     check_show, check_grown,
 )  # fmt: skip
 
