@@ -1,5 +1,5 @@
-"""What the tests beside this file share: where what they try lies, and counts of what passes and what fails. It tells
-the others' places, so it comes before them."""
+"""What the tests beside this file share: where what they try lies, and counts of what passes and what fails. It comes
+before the others, since it tells where they are."""
 
 from __future__ import annotations
 
@@ -16,8 +16,7 @@ import tempfile
 import types
 from collections.abc import Callable
 
-PLACES = [pathlib.Path(__file__).resolve().parent.parent / it for it in ("tests/oracle", "tests", "examples", "bench")]
-sys.path[1:1] = map(str, PLACES)
+sys.path.insert(1, str(pathlib.Path(__file__).resolve().parent / "oracle"))
 from trying import PROGRAM, TOP, asked, end, first_difference, run, written  # noqa: E402, F401
 
 DEMO = TOP / "crates/acpidis_program/data/demo"

@@ -6,14 +6,14 @@
 It shares nothing with the program: the modules beside it read code, namespaces, tables and whole sets after docs/.
 """
 
-import re
 import sys
 
-import trying  # noqa: F401
+import trying  # noqa: F401, which tells where the others lie
 from dumps import RECORDS, Bad, Dump, addresses_of, little, order_of, records_of
 from folders import LineFault, parse_externals, parse_map
 from any_run import Namespace
 from loading import Body, path_text
+from made_aml import bytes_of
 from made_sets import sealed
 from printing import hexadecimal, row_text, term_lines
 from reading import IF, METHOD, Name, Op, Reader, Refused
@@ -22,20 +22,6 @@ from running import FLAGS, Options, run
 HEADER = b"\x02\0TEST  EXAMPLE \x01\0\0\0TEST\x01\0\0\0"
 WIDTHS = {1: "One", 2: "Two", 3: "Three", 4: "Four"}
 FORMS = {0x00: "Null", 0x2E: "Dual", 0x2F: "Multi"}
-ATOM = re.compile(r"\s+|(?:([0-9A-F]{2})|'([^']*)')(?:\s*\*([0-9]+))?(?=\s|$)")
-
-
-def bytes_of(text):
-    """Two hexadecimal digits or text in single quotes, each repeated by `*N`."""
-    data, at = b"", 0
-    while at < len(text):
-        atom = ATOM.match(text, at)
-        if not atom:
-            raise ValueError(f"no bytes: {text[at:]}")
-        digits, plain, times = atom.groups()
-        unit = bytes.fromhex(digits) if digits else (plain or "").encode()
-        data, at = data + unit * int(times or 1), atom.end()
-    return data
 
 
 def name_of(text):
