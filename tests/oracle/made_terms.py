@@ -3,7 +3,7 @@
 import itertools
 from collections import namedtuple
 
-from made_code import Chancy, package_length, shortest
+from made_code import MOST_SEGMENTS, Chancy, package_length, shortest
 from reading import Name
 
 # What a term has in front of its names and behind them, where it has no package length, and where it has one.
@@ -61,14 +61,19 @@ class TermMaker(Chancy):
     def __init__(self, chance):
         self.chance, self.paths = chance, []
 
-    def tables(self):
-        """The terms of two tables, the second of which may be empty."""
+    def scenery(self, scope):
+        """Terms in a scope, each in a list of its own; half of the time those of a scene are among them."""
         self.paths = []
-        groups = self.groups(0, ())
+        groups = self.groups(0, scope)
         if self.happens(0.5):
             place = self.chance.randrange(len(groups) + 1)
             scene = self.chance.choice((self.chained, self.opened, self.missed))
             groups[place:place] = [[term] for term in scene()]
+        return groups
+
+    def tables(self):
+        """The terms of two tables, the second of which may be empty."""
+        groups = self.scenery(())
         cut = self.chance.choice([len(groups), self.chance.randrange(len(groups) + 1)])
         return [joined(groups[:cut]), joined(groups[cut:])]
 
@@ -118,7 +123,7 @@ class TermMaker(Chancy):
         if not self.paths or how < 0.1:
             return self.name(scope)
         path = self.chance.choice(self.paths)
-        return root_name(path) if how < 0.6 else Name(False, 0, [path[-1]])
+        return root_name(path) if how < 0.6 and len(path) <= MOST_SEGMENTS else Name(False, 0, [path[-1]])
 
     def name(self, scope):
         segs = [self.segment() for _ in range(1 if self.happens(0.65) else 2)]
