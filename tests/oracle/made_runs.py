@@ -86,19 +86,14 @@ class RunMaker(Maker):
         content = b"\0" + b"".join(self.operation(EXTERNAL, depth, "table") for _ in range(self.chance.randrange(3)))
         return self.packed(b"\xA0", content)
 
-    @contextlib.contextmanager
-    def at(self, scope, is_sure):
-        """Code in a scope, where what it declares may be as sure as what stands around it."""
-        outside = self.scope, self.is_sure
-        self.scope, self.is_sure = scope, self.is_sure and is_sure
-        yield
-        self.scope, self.is_sure = outside
-
     def block(self, opcode, depth, inside):
         if inside != "table":
             return super().block(opcode, depth, inside)
-        with self.at(*((self.opened, self.opened_is_sure) if opcode in SCOPES else (self.scope, False))):
-            return self.terms(depth, "table")
+        outside, is_sure = (self.scope, self.is_sure), opcode in SCOPES and self.opened_is_sure
+        self.scope, self.is_sure = self.opened if opcode in SCOPES else self.scope, self.is_sure and is_sure
+        code = self.terms(depth, "table")
+        self.scope, self.is_sure = outside
+        return code
 
     def parts(self, opcode, depth, inside):
         self.opcode = opcode
