@@ -162,9 +162,6 @@ def check_misread(checks):
         for words in ([ASL, text, "misread"], [ASL, "--edit", text, "misread"]):
             checks.says(content[-300:], words, 1, f"asl: {str(text)!r}: {what}\n")
     checks.is_so("nothing is written", not (checks.room / "misread").exists())
-    checks.says("no such text", [ASL, "nowhere", "out"], 2, "asl: 'nowhere': No such file or directory\n")
-    text = checks.text("misread.text", WHOLE)
-    checks.says("a file in the way", [ASL, text, text], 2, f"asl: {str(text)!r}: File exists\n")
     text.write_bytes(WHOLE.replace("\n", "\r\n").encode())
     checks.says("lines as on Windows", [ASL, text, "windows"], 0)
 
@@ -299,7 +296,6 @@ def check_splice(checks):
     for words, what in UNSPLICED:
         one, other, path = words.split()
         checks.says(f"splice {words}", [SPLICE, f"splice/{one}", f"splice/{other}", path], 1, f"splice: {what}\n", "")
-    checks.says("no such file", [SPLICE, old, "none", "NAM1"], 2, "splice: 'none': No such file or directory\n")
     checks.is_same("no path", checks.run(SPLICE, old, new, "1").returncode, 2)
     for more, file in ((["-o", old], old), (["--initrd", "splice/../splice/old"], "splice/../splice/old"), (["-o", "-"], "-")):
         ran = checks.run(SPLICE, *more, old, new, "NAM1")
