@@ -106,7 +106,7 @@ SCOPED = "FOO_ (One)\n  }\n  Scope (FOO_) {", "FOO_ as a call, where nothing say
 WIDE = "0x1122334455667788"
 WHOLE = text_of(ROWS, ["Method (FOO_, 1, NotSerialized, 0) {", "  Noop", "}"], "a.dat")
 BLOCK = WHOLE[WHOLE.index("DefinitionBlock") :]
-BODIES, UNITS, CHANGES, UNSPLICED, METHODS = ([row.split("  # ") for row in rows] for rows in tables_in("unspelled.txt"))
+BODIES, UNITS, CHANGES, UNSPLICED, METHODS = ([row.split("  # ") for row in it] for it in tables_in("unspelled.txt"))
 
 
 def changed(change):

@@ -5,8 +5,8 @@
 
 First come texts that are written down here, for page.py, facts.py, asl.py, calls.py and missing.py, each with at most 2 seconds
 of processor time and 1 GB of memory; then files of errors that are others, outputs that take nothing or a part, and pipes;
-then N damaged listings, 500 if left out, for page.py, facts.py and asl.py: nothing but a word may come of them. The last
-line is 'N passed, N failed'.
+then N damaged listings, 500 if left out, for page.py, facts.py and asl.py: nothing but a word may come of them. The
+last line is 'N passed, N failed'.
 """
 
 import os

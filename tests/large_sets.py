@@ -148,7 +148,8 @@ def chains_of_aliases():
     calls them."""
     methods = method(b"MET1", 1) + method(b"MET2", 2)
     first, second = (b"\x06" + name + segment(0) for name in (b"MET1", b"MET2"))
-    starts = {"two methods": shapes.block(first) + shapes.block(second), "one that may be": shapes.block(first), "one": first}
+    maybe = shapes.block(first)
+    starts = {"two methods": maybe + shapes.block(second), "one that may be": maybe, "one": first}
     chain = b"".join(b"\x06" + segment(number) + segment(number + 1) for number in range(CHAINED))
     called = range(0, CHAINED, STRIDE)
     calls = b"".join(method(b"Z%03d" % number, 0, segment(CHAINED - number) + b"\1\1") for number in called)

@@ -17,9 +17,9 @@ Use = namedtuple("Use", "table scope name count in_declaration")
 
 
 class Namespace:
-    """What stands after a run, whichever it is. `declarations` are those of a path in their order, each a kind and whether
-    it is sure. The kind of an Alias has its target, and whether it is open: the target may be another in some run. `given`
-    are the counts of arguments that no table says: paths with counts, of which the greatest holds."""
+    """What stands after a run, whichever it is. `declarations` are those of a path in their order, each a kind and
+    whether it is sure. The kind of an Alias has its target, and whether it is open: the target may be another in some
+    run. `given` are the counts of arguments that no table says: paths with counts, of which the greatest holds."""
 
     def __init__(self, given=()):
         self.declarations, self.externals, self.methods, self.uses, self.given = {}, {}, [], [], {}
@@ -239,8 +239,9 @@ class TreeLoader(RunReader):
             self.leave(term)
 
     def inside(self, term):
-        is_scope = term.opcode == SCOPE
-        return (self.space.lead(self.scope, term.names()[0], "ScopeMissing"), True) if is_scope else super().inside(term)
+        if term.opcode != SCOPE:
+            return super().inside(term)
+        return self.space.lead(self.scope, term.names()[0], "ScopeMissing"), True
 
     def declare(self, name, kind, has_source=True, method=None):
         path, is_again = self.space.declare_so(self.scope, name, kind, True, method)

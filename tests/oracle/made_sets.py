@@ -188,7 +188,7 @@ class SetMaker(Chancy):
         other = lambda: table(chance, chance.choice(SIGNATURES), chance.randbytes(chance.randrange(40)))
         facs = lambda length: FACS + length.to_bytes(4, "little") + chance.randbytes(length - 8)
         makers = {
-            "rsdp.dat": lambda: any_root(chance, chance.choice((0, 2)), chance.randrange(1 << 32), chance.randrange(1 << 64)),
+            "rsdp.dat": lambda: any_root(chance, chance.choice((0, 2)), *map(chance.randrange, (1 << 32, 1 << 64))),
             **{name: lambda name=name: self.stray_list(name) for name in LIST_FILES},
             "facp.dat": lambda: fadt(chance, chance.randrange(1 << 32)), "apic.dat": lambda: madt(chance),
             "facs.dat": lambda: facs(chance.choice((8, 9, 64))), "other.dat": other, "other2.dat": other,

@@ -75,7 +75,7 @@ class TableSurveyor(Surveying, RunReader):
 
 @functools.lru_cache(maxsize=32)
 def layouts_of(codes):
-    """The layouts of a tuple of tables in load order, each up to its first fault, with the bodies of the methods there."""
+    """The layouts of tables in load order, each up to its first fault, with the bodies of the methods there."""
     layouts, space = [Layout() for _ in codes], Namespace()
     for table, (code, layout) in enumerate(zip(codes, layouts)):
         TableSurveyor(code, layout=layout, space=space, table=table).survey()
