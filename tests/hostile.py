@@ -15,7 +15,6 @@ import random
 import re
 import resource
 import subprocess
-from collections.abc import Iterator
 
 from tally import TOP, Tally, asked, executable, module_of, parts_in, run_script, tables_in, timed, written
 from acpidis_tools.asl.blocks import Block, Reader
@@ -52,19 +51,16 @@ def repeated(form: re.Match) -> str:
     return "".join(form[1].replace("###", f"{number % 1000:03d}") for number in range(int(form[2]))).replace("|", "\n")
 
 
-def written_down() -> Iterator[tuple[str, str]]:
-    """The texts of tests/hostile.txt by what they are."""
-    for what, lines in parts_in("hostile.txt")[1:]:
-        lines = re.sub(r"<(.*?)\*(\d+)>", repeated, lines).split("\n")
-        rows = [line for line in lines if line.startswith("\\")]
-        yield what, text_of(rows, lines[len(rows) :])
-
-
 NAMES = [f"S{number:03d}" for number in range(200)]
 ROWS = [f"\\{'.'.join(NAMES[:number])} Device" for number in range(1, 201)]
 OPENED = [f"{'  ' * number}Device ({name}) {{" for number, name in enumerate(NAMES)]
 CLOSED = ["  " * number + "}" for number in range(199, -1, -1)]
-TEXTS = {**dict(written_down()), "200 scopes in each other": text_of(ROWS, OPENED + CLOSED)}
+# The texts by what they are
+TEXTS = {"200 scopes in each other": text_of(ROWS, OPENED + CLOSED)}
+for what, lines in parts_in("hostile.txt")[1:]:
+    lines = re.sub(r"<(.*?)\*(\d+)>", repeated, lines).split("\n")
+    rows = [line for line in lines if line.startswith("\\")]
+    TEXTS[what] = text_of(rows, lines[len(rows) :])
 # What is for the scripts too that look for names alone.
 LOOKED_FOR = re.compile("names|scopes|calls|brackets|segments|Raw|digits")
 
