@@ -43,12 +43,6 @@ NOOP = b"\xA3"
 class Checks(Tally):
     same = told = 0
 
-    def says(self, what, words, status, said="", printed=None):
-        """A script ends so, with these lines of standard error, and of standard output where these are told."""
-        ran = self.run(*words)
-        got = ran.returncode, ran.stderr, ran.stdout if printed is not None else None
-        self.is_same(what, got, (status, said, printed))
-
 
 # ---- whole sets
 
@@ -248,9 +242,7 @@ def listed(folder, options=()):
 
 
 def spliced(checks, *words):
-    ran = checks.run(SPLICE, *words, text=False)
-    checks.is_same(f"splice {words}", (ran.returncode, ran.stderr), (0, b""))
-    return ran.stdout
+    return checks.says(f"splice {words}", [SPLICE, *words], 0, b"", text=False)
 
 
 def check_difference(checks, what, before, after, lines):

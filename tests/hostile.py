@@ -116,9 +116,9 @@ def check_outputs(checks: Tally, room: pathlib.Path) -> None:
     checks.fills_disk("page.py", text)
     checks.fills_disk("facts.py", "--json", text)
     for script in sorted(file.name for file in TOP.glob("examples/*.py")):
-        done = run_script(script, "--help", stdout=None, preexec_fn=lambda: os.close(1))
         said = f"{script.removesuffix('.py')}: cannot write: Bad file descriptor\n"
-        checks.is_same(f"{script}, a closed output", (done.returncode, done.stderr), (2, said))
+        how = {"stdout": None, "preexec_fn": lambda: os.close(1)}
+        checks.says(f"{script}, a closed output", [script, "--help"], 2, said, **how)
 
 
 def check_files(checks: Tally, room: pathlib.Path) -> None:
@@ -131,11 +131,10 @@ def check_files(checks: Tally, room: pathlib.Path) -> None:
         script, *words = row.split()
         with open(room / "printed", "wb") as printed:
             how = {"stdout": printed, "cwd": room, "preexec_fn": bound, "env": {**os.environ, "PYTHONUNBUFFERED": "1"}}
-            done = run_script(script, *words, timeout=20, **how)
-        checks.is_same(row, (done.returncode, done.stderr), (2, f"{script.removesuffix('.py')}: {said}\n"))
+            checks.says(row, [script, *words], 2, f"{script.removesuffix('.py')}: {said}\n", timeout=20, **how)
     for place in ("/dev/stdin", "/proc/self/fd/0"):
-        done = run_script("show.py", place, "AAAA", input=(room / "text").read_text())
-        checks.is_same(f"a pipe as {place}", (done.returncode, done.stderr), (1, f"show: {place!r} declares no such path\n"))
+        said = f"show: {place!r} declares no such path\n"
+        checks.says(f"a pipe as {place}", ["show.py", place, "AAAA"], 1, said, input=(room / "text").read_text())
     checks.is_same("what is left of the parts", sorted(os.listdir(room)), ["dump", "fifo", "new", "printed", "text"])
 
 
