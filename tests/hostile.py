@@ -186,13 +186,14 @@ def check_mutations(checks: Tally, count: int) -> None:
         for make, *words in (
             (facts_script.facts_of, data, errors), (make_page, data, errors, number % 3 == 0), (make_asl, file)
         ):
+            fault = None
             try:
                 make(*words)
             except NoListing:
                 refused += make is make_asl
-            except Exception as fault:  # whatever it is, it fails the check
-                checks.is_so(f"mutation {number}, {make.__name__}: {fault!r}\n{text}", False)
-        checks.is_so(f"mutation {number}", True)
+            except Exception as caught:  # whatever it is, it fails the check
+                fault = repr(caught)
+            checks.is_so(f"mutation {number}, {make.__name__}: {fault}\n{text}", not fault)
     checks.is_so(f"{refused} of {count} are no listings", count / 25 < refused < 24 * count / 25)
 
 
