@@ -4,9 +4,8 @@ import random
 import re
 
 from trying import TOP
-from made_code import package_length
+from made_code import LEADS, package_length
 from made_sets import sealed
-from reading import ROWS
 
 LETTERS, DIGITS = "ABCDEFGHIJKLMNOPQRSTUVWXYZ", "0123456789ABCDEFGHIJKLMNOPQRSTUVWXYZ_"
 
@@ -61,7 +60,6 @@ def mixed(count):
     return random.Random(1).sample(range(count), count)
 
 
-OPCODES = {row.mnemonic: f"{opcode:0{2 if opcode < 256 else 4}X}" for opcode, row in ROWS.items()}
 ATOM = re.compile(r"\s*(?:(\w+)|'([^']*)'|([][]))(?:\s*\*([0-9]+))?\s*")
 
 
@@ -80,7 +78,7 @@ def bytes_of(text):
             content = opened.pop()
             opened[-1] = packed(opened[-1], content)
         else:
-            opened[-1] += (bytes.fromhex(OPCODES.get(word, word)) or plain.encode()) * int(times or 1)
+            opened[-1] += (LEADS.get(word) or bytes.fromhex(word) or plain.encode()) * int(times or 1)
     return opened[0]
 
 

@@ -10,12 +10,11 @@ from dataclasses import dataclass
 from any_run import Namespace, RunReader
 from dumps import HEADER_LENGTH
 from folders import MAP_NAME
-from made_code import LIKELY_BYTES, WIDEST, damaged, package_length
+from made_code import LEADS, LIKELY_BYTES, WIDEST, damaged, package_length
 from made_sets import BLOCKS, Trial, sealed
 from reading import EXTERNAL, METHOD, ROWS, Reader, Refused, is_name_lead
 
 SEGMENT = re.compile(rb"[A-Z_][A-Z0-9_]{3}")
-OPCODES = [bytes([opcode]) if opcode < 256 else opcode.to_bytes(2, "big") for opcode in ROWS]
 MOST_TERMS, LONGEST_TERM, MOST_CHANGES = 3000, 400, 4
 Span = namedtuple("Span", "start end")
 
@@ -173,7 +172,8 @@ class Mutator:
     def change_opcode(self, code, layout):
         start, _ = self.span(layout)
         width = 2 if code[start:start + 1] == b"\x5b" else 1
-        return replaced(code, layout, Span(start, min(start + width, len(code))), self.chance.choice(OPCODES))
+        span = Span(start, min(start + width, len(code)))
+        return replaced(code, layout, span, self.chance.choice(list(LEADS.values())))
 
     def change_flags(self, code, layout):
         """Another byte behind the name of a Method or an External, in which the count of arguments stands."""
