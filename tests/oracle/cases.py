@@ -13,13 +13,11 @@ from dumps import RECORDS, Bad, Dump, addresses_of, little, order_of, records_of
 from folders import LineFault, parse_externals, parse_map
 from any_run import Namespace
 from loading import Body, path_text
-from made_aml import bytes_of
-from made_sets import sealed
+from made_aml import bytes_of, table
 from printing import hexadecimal, row_text, term_lines
 from reading import IF, METHOD, Name, Op, Reader, Refused
 from running import FLAGS, Options, run
 
-HEADER = b"\x02\0TEST  EXAMPLE \x01\0\0\0TEST\x01\0\0\0"
 WIDTHS = {1: "One", 2: "Two", 3: "Three", 4: "Four"}
 FORMS = {0x00: "Null", 0x2E: "Dual", 0x2F: "Multi"}
 
@@ -227,7 +225,7 @@ class Rows:
                 self.dumps, self.given = [], []
             case "dump":
                 name, signature = words.split(" ")
-                self.of_sets("raw", name, sealed(signature.encode() + bytes(4) + HEADER + data))
+                self.of_sets("raw", name, table(signature.encode(), data))
             case "raw":
                 name, _, address = words.partition("@")
                 self.dumps.append(Dump(name, int(address, 16) if address else None, data))
