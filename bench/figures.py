@@ -29,7 +29,7 @@ from xml.sax.saxutils import escape
 
 import measuring
 import hostile_shapes as shapes
-from made_aml import tables
+from made_aml import bytes_of, tables
 from trying import PROGRAM, TOP, asked
 
 README = TOP / "README.md"
@@ -53,14 +53,9 @@ COLOURS = ("#0b5fa5", "#7db8e8", "#d9822b")
 
 # A device of the compiled sets, as firmware has them, by its number
 DEVICE = (TOP / "bench/device.asl").read_text()
-MIXED = bytes.fromhex(
-    "700a0560"  # Store (0x05, Local0)
-    "700b341261"  # Store (0x1234, Local1)
-    "700c785634125c5f4f535f"  # Store (0x12345678, \_OS_)
-    "700e080706050403020162"  # Store (0x0102030405060708, Local2)
-    "72606162"  # Add (Local0, Local1, Local2)
-    "700d61626364656667680063"  # Store ("abcdefgh", Local3)
-    "a45f524556"  # Return (_REV)
+MIXED = bytes_of(
+    "Store 0A05 60  Store 0B3412 61  Store 0C78563412 '\\_OS_'  Store 0E0807060504030201 62  Add 60 61 62  "
+    "Store 0D 'abcdefgh' 00 63  Return '_REV'"
 )
 
 

@@ -5,6 +5,7 @@ from functools import partial, reduce
 from measuring import Sparse
 import made_aml
 from made_aml import each, mixed, packed, segment, table, tables
+from made_sets import root
 
 MOST_BYTES, HEADER_BYTES, SEGMENTS = 16_777_216, 36, 255
 # A file of a set that is no dump, since it lies in a folder of its own.
@@ -235,14 +236,10 @@ def led(names, width, more):
     entries = names[2:3] + names[4:] + names[-1:] * more
     places = {it: ADDRESS * (number + 1) for number, it in enumerate(names)}
     address = {it: place.to_bytes(width, "little") for it, place in places.items()}
-    root = bytearray(b"RSD PTR \0BENCH " + (b"\x02" + bytes(4) if width == 8 else b"\0" + address[names[1]]))
-    root[8] = -sum(root) % 256
-    if width == 8:
-        root += (36).to_bytes(4, "little") + address[names[1]] + bytes(4)
-        root[32] = -sum(root) % 256
+    pointer = root(2, 0, places[names[1]]) if width == 8 else root(0, places[names[1]], 0)
     dsdt, content = address["dsdt.dat"], b"".join(address[it] for it in entries)
     return {
-        names[0]: bytes(root), names[1]: table(names[1][:4].upper().encode(), content),
+        names[0]: pointer, names[1]: table(names[1][:4].upper().encode(), content),
         names[2]: table(b"FACP", bytes(104) + dsdt if width == 8 else bytes(4) + dsdt + bytes(104)),
         names[3]: table(b"DSDT", b""), **{it: table(b"SSDT", b"") for it in names[4:]},
         "tables.map": "".join(f"{places[it]:016X} {it}\n" for it in names).encode(),

@@ -4,7 +4,7 @@ import pathlib
 import sys
 from collections import namedtuple
 
-sys.path[1:1] = [str(pathlib.Path(__file__).resolve().parent.parent / place) for place in ("tests", "tests/oracle")]
+sys.path.insert(1, str(pathlib.Path(__file__).resolve().parents[1] / "tests/oracle"))
 from trying import run  # noqa: E402
 
 # A file of these bytes and then so many zeros that it has this size

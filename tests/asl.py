@@ -21,13 +21,11 @@ import subprocess
 from tally import DEMO, PROGRAM, Tally, asked, parts_in, tables_in, timed, written
 import hostile_shapes as shapes
 import splice
-from acpidis_tools.asl.blocks import Block, Reader
-from acpidis_tools.asl.names import said_by
-from acpidis_tools.listing import NoListing
 from dumps import aml_of, dumps_of
 from folders import read_folder
-from hostile import head_of, mutated, repeated, text_of
-from loading import load, path_text
+from hostile import SAMPLES, head_of, repeated, text_of
+from any_run import load
+from loading import path_text
 from made_aml import SETS, VERSIONS, device, method, scope, table, tables
 from made_code import shortest
 from made_plain import PlainMaker
@@ -35,23 +33,15 @@ from made_sets import sealed
 from printing import file_text
 from reading import Name
 from running import REFUSED, Options, run
-from telling import HOSTILE_FILES, PAGES_FILES, RUNS_FILES
 
 ASL, SPLICE, UNPACK, SHOW = "asl.py", "splice.py", "unpack.py", "show.py"
 IASL, ACPIXTRACT = shutil.which("iasl"), shutil.which("acpixtract")
 HEADER, MOST_GROWN, GROWN = 36, 70_000, 150
 NOOP = b"\xA3"
-SAMPLES = {"pages": PAGES_FILES, "hostile": HOSTILE_FILES, "runs": RUNS_FILES, **VERSIONS}
 
 
 class Checks(Tally):
     same = told = 0
-
-    def says(self, what, words, status, said="", printed=None):
-        """A script ends so, with these lines of standard error, and of standard output where these are told."""
-        ran = self.run(*words)
-        got = ran.returncode, ran.stderr, ran.stdout if printed is not None else None
-        self.is_same(what, got, (status, said, printed))
 
 
 # ---- whole sets
@@ -110,7 +100,7 @@ SCOPED = "FOO_ (One)\n  }\n  Scope (FOO_) {", "FOO_ as a call, where nothing say
 WIDE = "0x1122334455667788"
 WHOLE = text_of(ROWS, ["Method (FOO_, 1, NotSerialized, 0) {", "  Noop", "}"], "a.dat")
 BLOCK = WHOLE[WHOLE.index("DefinitionBlock") :]
-BODIES, UNITS, CHANGES, UNSPLICED = ([row.split("  # ") for row in rows] for rows in tables_in("unspelled.txt"))
+BODIES, UNITS, CHANGES, UNSPLICED, METHODS = ([row.split("  # ") for row in it] for it in tables_in("unspelled.txt"))
 
 
 def changed(change):
@@ -119,12 +109,6 @@ def changed(change):
     return WHOLE.replace(old, new.replace("\\n", "\n    "))
 
 
-# Paths of which asl.py makes no method, and what it says of them where \\FOO_ is raw.
-METHODS = [
-    ("FOO_", "line 8: the body of \\FOO_ is raw: it has no terms to be changed"),
-    ("NONE", "it declares no method \\NONE"), ("BAR_", "it declares no method \\BAR_"),
-    ("_STA", "it declares no method \\_STA: name it from the root, as \\DEV0._STA; acpidis-show has all that end so"),
-]  # fmt: skip
 # Texts that are no listings, with what is said of them.
 MISREAD = [
     ("", "it is empty"),
@@ -174,9 +158,6 @@ def check_misread(checks):
         for words in ([ASL, text, "misread"], [ASL, "--edit", text, "misread"]):
             checks.says(content[-300:], words, 1, f"acpidis-asl: {str(text)!r}: {what}\n")
     checks.is_so("nothing is written", not (checks.room / "misread").exists())
-    checks.says("no such text", [ASL, "nowhere", "out"], 2, "acpidis-asl: 'nowhere': No such file or directory\n")
-    text = checks.text("misread.text", WHOLE)
-    checks.says("a file in the way", [ASL, text, text], 2, f"acpidis-asl: {str(text)!r}: File exists\n")
     text.write_bytes(WHOLE.replace("\n", "\r\n").encode())
     checks.says("lines as on Windows", [ASL, text, "windows"], 0)
 
@@ -204,30 +185,6 @@ def check_speed(checks):
         text = checks.text(f"{size}.text", head + lines)
         times.append(timed(checks.run, ASL, "--edit", text, f"of{size}", most=most)[1])
     checks.is_so(f"seconds of 1 MB and 4 MB: {times}", times[0] < 6 and times[1] < 8 * times[0])
-
-
-def fault_of(path):
-    """What becomes of a text: nothing where it is read, that it is no listing, or another fault."""
-    reader = Reader(lambda table, space: Block(table, space, True))
-    try:
-        reader.read(path)
-        [block.text(reader.rows, said_by(reader.blocks)) for block in reader.blocks]
-    except NoListing:
-        return NoListing
-    except Exception as fault:  # whatever it is, it fails the check
-        return f"{path}: {fault!r}"
-
-
-def check_mutations(checks):
-    """Damaged listings are read, or are no listings."""
-    outcomes = [run(dumps_of(files), Options(any_run=True)) for files in SAMPLES.values()]
-    dice, faults = random.Random(0), []
-    for number in range(500):
-        text = mutated(outcomes[number % len(outcomes)].out.splitlines(), dice)
-        faults.append(fault_of(checks.text("mutated", text)))
-    checks.is_same("mutations", [fault for fault in faults if fault not in (None, NoListing)], [])
-    refused = faults.count(NoListing)
-    checks.is_so(f"{refused} are no listings", 20 < refused < 480)
 
 
 # ---- one method, changed
@@ -287,9 +244,7 @@ def listed(folder, options=()):
 
 
 def spliced(checks, *words):
-    ran = checks.run(SPLICE, *words, text=False)
-    checks.is_same(f"splice {words}", (ran.returncode, ran.stderr), (0, b""))
-    return ran.stdout
+    return checks.says(f"splice {words}", [SPLICE, *words], 0, b"", text=False)
 
 
 def check_difference(checks, what, before, after, lines):
@@ -334,9 +289,7 @@ def check_splice(checks):
     old, new = "splice/old", "splice/new"
     for words, what in UNSPLICED:
         one, other, path = words.split()
-        command = [SPLICE, f"splice/{one}", f"splice/{other}", path]
-        checks.says(f"splice {words}", command, 1, f"acpidis-splice: {what}\n", "")
-    checks.says("no such file", [SPLICE, old, "none", "NAM1"], 2, "acpidis-splice: 'none': No such file or directory\n")
+        checks.says(f"splice {words}", [SPLICE, f"splice/{one}", f"splice/{other}", path], 1, f"acpidis-splice: {what}\n", "")
     checks.is_same("no path", checks.run(SPLICE, old, new, "1").returncode, 2)
     for more, file in ((["-o", old], old), (["--initrd", "splice/../splice/old"], "splice/../splice/old"), (["-o", "-"], "-")):
         ran = checks.run(SPLICE, *more, old, new, "NAM1")
@@ -498,7 +451,7 @@ def check_forms(checks):
 
 
 CHECKS = (
-    check_forms, check_told, check_method, check_misread, check_mutations, check_names, check_speed, check_splice, check_unpack,
+    check_forms, check_told, check_method, check_misread, check_names, check_speed, check_splice, check_unpack,
     check_show, check_grown,
 )  # fmt: skip
 

@@ -7,14 +7,13 @@ usage: tests/costs.py [PROGRAM]
 PROGRAM is out/acpidis if left out. It needs a C compiler, for refusals.c. The last line is 'N passed, N failed'.
 """
 
-import os
-import subprocess
 from functools import partial
 
 from tally import DEMO, PROGRAM, Tally, asked, run, shim_in, written
 import hostile_shapes as shapes
 import measuring
 from made_aml import tables
+from refusals import counted
 
 METHODS = 20_000
 # A write takes 64 KB, and less only where a body's text doesn't fit any more.
@@ -39,19 +38,6 @@ TOLD = {"scopes": 16, "external": 16}
 MOST_SECONDS, STARTED_BYTES = 2, 40_000_000
 
 
-def count_calls(program, shim, folder):
-    """The length of a set's text, the writes of it, and the blocks of memory that are let go behind the last one."""
-    counts, end = os.pipe()
-    words = ["sh", "-c", f'exec "$0" "$@" 3>&{end}', program, "--workers", "1", folder]
-    ran = subprocess.run(
-        words, env={**os.environ, "LD_PRELOAD": shim}, stdout=subprocess.PIPE, check=True, pass_fds=[end]
-    )
-    os.close(end)
-    with os.fdopen(counts) as lines:
-        *_others, writes, freed = map(int, lines.read().split("\n")[-2].split())
-    return len(ran.stdout), writes, freed
-
-
 def costs_of(program, folder, make, most, *options):
     """What a run of a set takes. It is tried again, twice at most, where a busy machine makes it longer than it may be."""
     measuring.write(folder, make)
@@ -66,8 +52,9 @@ def costs_of(program, folder, make, most, *options):
 def measure(program, room):
     """What was counted, each with its bound."""
     folder = written(room / "set", tables(shapes.many_methods(METHODS)))
-    length, writes, freed = count_calls(program, shim_in(room), folder)
-    assert length > 100 * METHODS, length
+    outcome, (*_, writes, freed) = counted(room, shim_in(room), [program, "--workers", "1", folder])
+    length = len(outcome.out)
+    assert outcome.status == 0 and length > 100 * METHODS, (outcome.status, length)
     small, least = (run([program, word], 60) for word in (DEMO, "--version"))
     assert (small.status, least.status) == (0, 0), small
     yield f"writes of {length} bytes", writes, length // LEAST_WRITE

@@ -119,7 +119,7 @@ def try_damage(tries):
     (tries.room / "noted/notes.txt").write_text("DSDT @ 0x0000000000000000\n    0000: 44 53 44 54 24 00 00 00\n")
     found = tries.run("refused.py", "noted")
     tries.is_so("the text of acpidump", "Way on: `acpidis-unpack FILE FOLDER`" in found.stdout and not found.stderr)
-    tries.fills_disk("refused.py", "twice", cwd=tries.room)
+    tries.fills_disk("refused.py", "twice")
     end, closed = os.pipe()
     os.close(end)
     found = run_script("missing.py", "ejects", stdout=closed, cwd=tries.room)

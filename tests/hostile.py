@@ -5,8 +5,8 @@
 
 First come texts that are written down here, for page.py, facts.py, asl.py, calls.py and missing.py, each with at most 2 seconds
 of processor time and 1 GB of memory; then files of errors that are others, outputs that take nothing or a part, and pipes;
-then N damaged listings, 200 if left out, for page.py and facts.py: nothing but a word may come of them. The last line is
-'N passed, N failed'.
+then N damaged listings, 500 if left out, for page.py, facts.py and asl.py: nothing but a word may come of them. The
+last line is 'N passed, N failed'.
 """
 
 import os
@@ -15,19 +15,22 @@ import random
 import re
 import resource
 import subprocess
-from collections.abc import Iterator
 
 from tally import TOP, Tally, asked, executable, module_of, parts_in, run_script, tables_in, timed, written
+from acpidis_tools.asl.blocks import Block, Reader
+from acpidis_tools.asl.names import said_by
 from acpidis_tools.errors import read_errors
 from acpidis_tools.listing import NoListing
 from acpidis_tools.page.markup import page
-from made_aml import table
-from running import Options, run_folder
+from dumps import dumps_of
+from made_aml import VERSIONS, table
+from running import Options, run as run_dumps
 from acpidis_tools.page.sheet import Sheet
-from telling import HOSTILE_FILES, RUNS_FILES
+from telling import HOSTILE_FILES, PAGES_FILES, RUNS_FILES
 
 facts_script = module_of("facts_script", TOP / "examples/facts.py")
 SECONDS, MOST_MEMORY = 2, 1_000_000_000
+SAMPLES = {"pages": PAGES_FILES, "hostile": HOSTILE_FILES, "runs": RUNS_FILES, **VERSIONS}
 
 
 def head_of(file: str, signature: str, revision: int = 2) -> str:
@@ -48,19 +51,16 @@ def repeated(form: re.Match) -> str:
     return "".join(form[1].replace("###", f"{number % 1000:03d}") for number in range(int(form[2]))).replace("|", "\n")
 
 
-def written_down() -> Iterator[tuple[str, str]]:
-    """The texts of tests/hostile.txt by what they are."""
-    for what, lines in parts_in("hostile.txt")[1:]:
-        lines = re.sub(r"<(.*?)\*(\d+)>", repeated, lines).split("\n")
-        rows = [line for line in lines if line.startswith("\\")]
-        yield what, text_of(rows, lines[len(rows) :])
-
-
 NAMES = [f"S{number:03d}" for number in range(200)]
 ROWS = [f"\\{'.'.join(NAMES[:number])} Device" for number in range(1, 201)]
 OPENED = [f"{'  ' * number}Device ({name}) {{" for number, name in enumerate(NAMES)]
 CLOSED = ["  " * number + "}" for number in range(199, -1, -1)]
-TEXTS = {**dict(written_down()), "200 scopes in each other": text_of(ROWS, OPENED + CLOSED)}
+# The texts by what they are
+TEXTS = {"200 scopes in each other": text_of(ROWS, OPENED + CLOSED)}
+for what, lines in parts_in("hostile.txt")[1:]:
+    lines = re.sub(r"<(.*?)\*(\d+)>", repeated, lines).split("\n")
+    rows = [line for line in lines if line.startswith("\\")]
+    TEXTS[what] = text_of(rows, lines[len(rows) :])
 # What is for the scripts too that look for names alone.
 LOOKED_FOR = re.compile("names|scopes|calls|brackets|segments|Raw|digits")
 
@@ -116,9 +116,9 @@ def check_outputs(checks: Tally, room: pathlib.Path) -> None:
     checks.fills_disk("page.py", text)
     checks.fills_disk("facts.py", "--json", text)
     for script in sorted(file.name for file in TOP.glob("examples/*.py")):
-        done = run_script(script, "--help", stdout=None, preexec_fn=lambda: os.close(1))
         said = f"acpidis-{script.removesuffix('.py')}: cannot write: Bad file descriptor\n"
-        checks.is_same(f"{script}, a closed output", (done.returncode, done.stderr), (2, said))
+        how = {"stdout": None, "preexec_fn": lambda: os.close(1)}
+        checks.says(f"{script}, a closed output", [script, "--help"], 2, said, **how)
 
 
 def check_files(checks: Tally, room: pathlib.Path) -> None:
@@ -131,17 +131,15 @@ def check_files(checks: Tally, room: pathlib.Path) -> None:
         script, *words = row.split()
         with open(room / "printed", "wb") as printed:
             how = {"stdout": printed, "cwd": room, "preexec_fn": bound, "env": {**os.environ, "PYTHONUNBUFFERED": "1"}}
-            done = run_script(script, *words, timeout=20, **how)
-        checks.is_same(row, (done.returncode, done.stderr), (2, f"acpidis-{script.removesuffix('.py')}: {said}\n"))
+            checks.says(row, [script, *words], 2, f"acpidis-{script.removesuffix('.py')}: {said}\n", timeout=20, **how)
     for place in ("/dev/stdin", "/proc/self/fd/0"):
-        done = run_script("show.py", place, "AAAA", input=(room / "text").read_text())
         said = f"acpidis-show: {place!r} declares no such path\n"
-        checks.is_same(f"a pipe as {place}", (done.returncode, done.stderr), (1, said))
+        checks.says(f"a pipe as {place}", ["show.py", place, "AAAA"], 1, said, input=(room / "text").read_text())
     checks.is_same("what is left of the parts", sorted(os.listdir(room)), ["dump", "fifo", "new", "printed", "text"])
 
 
 def mutated(lines: list, dice: random.Random) -> str:
-    lines = lines.copy()
+    lines = lines.copy() or [""]
     for _ in range(dice.randint(1, 3)):
         at = dice.randrange(len(lines))
         words = re.split(r"(\W)", lines[at])
@@ -164,37 +162,48 @@ def mutated(lines: list, dice: random.Random) -> str:
     return "\n".join(lines) + "\n"
 
 
-def check_mutations(checks: Tally, room: pathlib.Path, count: int) -> None:
-    outcomes = [
-        run_folder(written(room / "hostile", HOSTILE_FILES), Options()),
-        run_folder(written(room / "runs", RUNS_FILES), Options(any_run=True)),
-    ]
-    dice = random.Random(0)
+def make_page(text: bytes, errors: bytes, is_packed: bool) -> None:
+    sheet = Sheet.of(text, is_packed=is_packed)
+    sheet.faults = read_errors(errors, sheet.listing)
+    page(sheet)
+
+
+def make_asl(text: pathlib.Path) -> None:
+    reader = Reader(lambda table, space: Block(table, space, True))
+    reader.read(text)
+    [block.text(reader.rows, said_by(reader.blocks)) for block in reader.blocks]
+
+
+def check_mutations(checks: Tally, count: int) -> None:
+    """Damaged listings are read, or are no listings."""
+    outcomes = [run_dumps(dumps_of(files), Options(any_run=True)) for files in SAMPLES.values()]
+    dice, refused = random.Random(0), 0
     for number in range(count):
-        outcome = outcomes[number % 2]
-        text = mutated(outcome.out.splitlines(), dice).encode("ascii", "replace")
+        outcome = outcomes[number % len(outcomes)]
+        text = mutated(outcome.out.splitlines(), dice)
         errors = mutated(outcome.err.splitlines(), dice).encode("ascii", "replace")
-        try:
-            facts_script.facts_of(text, errors)
-            sheet = Sheet.of(text, is_packed=number % 3 == 0)
-            sheet.faults = read_errors(errors, sheet.listing)
-            page(sheet)
-        except NoListing:
-            pass
-        except Exception as fault:  # whatever it is, it fails the check
-            print(text.decode())
-            checks.is_so(f"mutation {number}: {fault!r}", False)
-            continue
-        checks.is_so(f"mutation {number}", True)
+        data, file = text.encode("ascii", "replace"), checks.text("mutated", text)
+        for make, *words in (
+            (facts_script.facts_of, data, errors), (make_page, data, errors, number % 3 == 0), (make_asl, file)
+        ):
+            fault = None
+            try:
+                make(*words)
+            except NoListing:
+                refused += make is make_asl
+            except Exception as caught:  # whatever it is, it fails the check
+                fault = repr(caught)
+            checks.is_so(f"mutation {number}, {make.__name__}: {fault}\n{text}", not fault)
+    checks.is_so(f"{refused} of {count} are no listings", count / 25 < refused < 24 * count / 25)
 
 
 def main() -> None:
-    count = asked(__doc__, mutations=200).mutations
+    count = asked(__doc__, mutations=500).mutations
     with Tally() as checks:
         check_texts(checks, checks.room)
         check_outputs(checks, checks.room)
         check_files(checks, checks.room)
-        check_mutations(checks, checks.room, count)
+        check_mutations(checks, count)
 
 
 if __name__ == "__main__":

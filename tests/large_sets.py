@@ -11,18 +11,18 @@ written down here, after docs/listing.md, docs/limits.md and docs/names.md. The 
 
 import concurrent.futures
 import dataclasses
-import functools
 import gc
 import itertools
 import os
 from collections import namedtuple
 
 from tally import PROGRAM, Tally, asked
+import hostile_shapes as shapes
 from compare import difference_of, laid, run_program
 from dumps import HEADER_LENGTH, MOST_BYTES, MOST_DUMPS, dumps_of
 from loading import MOST_METHODS
 from made_code import MOST_SEGMENTS
-from made_aml import SETS, device, method, packed, scope, segment, table, tables
+from made_aml import SETS, device, method, scope, segment, table, tables
 from running import DONE, RAW, Options, Outcome, refused, run, run_folder
 
 LIST, CHECK = Options(), Options(check=True)
@@ -81,10 +81,6 @@ def check_line(file, size, methods, raw):
     return f'Check "{file}" Bytes {size} Methods {methods} Raw {raw} Same\n'
 
 
-def within_if(code):
-    return packed(b"\xA0", b"\1" + code)
-
-
 def bodies_of_two_bytes():
     count = 1 << 16
     code = b"".join(b"\x14\x08" + segment(number) + b"\0" + number.to_bytes(2, "big") for number in range(count))
@@ -107,16 +103,16 @@ def a_mixed_order():
 def what_has_a_limit():
     """Code outside methods goes 512 levels deep, where the predicate of the last If is a level below it; the most
     files, and the most bytes; and a path that is declared again and again."""
-    ifs = functools.reduce(lambda code, _: within_if(code), range(511), b"")
+    ifs = shapes.around(511, shapes.block, b"")
     for options in LIST_RUNS, CHECK_RUNS:
         yield Trial("511 Ifs", tables(ifs), options)
-    yield Trial("512 Ifs", tables(within_if(ifs)), LIST_RUNS)
+    yield Trial("512 Ifs", tables(shapes.block(ifs)), LIST_RUNS)
     for options in LIST_RUNS, LIST:
         yield Trial("a path declared 200 times", tables(*[b"\x08AAAA\0" * 100] * 2), options)
     for count in MOST_DUMPS, MOST_DUMPS + 1:
         yield Trial(f"{count} empty files", dict.fromkeys(map(str, range(count)), b""))
-        yield Trial(f"{count} tables", tables(*(b"\x08" + segment(number) + b"\0" for number in range(count))))
-    most = tables(*(b"\x08" + segment(number) + b"\0" for number in range(MOST_DUMPS)))
+        yield Trial(f"{count} tables", tables(*(shapes.name(segment(number)) for number in range(count))))
+    most = tables(*(shapes.name(segment(number)) for number in range(MOST_DUMPS)))
     yield Trial(f"{MOST_DUMPS} tables", most, CHECK)
     for size in MOST_BYTES, MOST_BYTES + 1:
         yield Trial(f"{size} zeros", {BLOCK: bytes(size)})
@@ -137,13 +133,13 @@ def below_maybes():
     once more, with another method at the path; and with each Device inside the one before."""
     segments = [segment(number) for number in range(MOST_SEGMENTS)]
     *above, whole = [b"\\/%c" % count + b"".join(segments[:count]) for count in range(1, MOST_SEGMENTS + 1)]
-    maybes = b"".join(within_if(device(name)) for name in above) + method(whole, 1)
+    maybes = b"".join(shapes.block(device(name)) for name in above) + method(whole, 1)
     sure, call = b"".join(map(device, above)) + method(whole, 2), method(b"CALL", 0, whole + b"\1\1")
     yield from by_workers("a long path below maybes", maybes + call)
     yield from by_workers("a long path below what is sure at the end", maybes + sure + call)
     nested = method(segments[-1], 1, segments[-1] + b"\1") + method(whole, 2)
     for name in reversed(segments[1:-1]):
-        nested = within_if(device(name, nested))
+        nested = shapes.block(device(name, nested))
     yield from by_workers("a long path inside of maybes", device(segments[0], nested) + call)
 
 
@@ -152,7 +148,8 @@ def chains_of_aliases():
     calls them."""
     methods = method(b"MET1", 1) + method(b"MET2", 2)
     first, second = (b"\x06" + name + segment(0) for name in (b"MET1", b"MET2"))
-    starts = {"two methods": within_if(first) + within_if(second), "one that may be": within_if(first), "one": first}
+    maybe = shapes.block(first)
+    starts = {"two methods": maybe + shapes.block(second), "one that may be": maybe, "one": first}
     chain = b"".join(b"\x06" + segment(number) + segment(number + 1) for number in range(CHAINED))
     called = range(0, CHAINED, STRIDE)
     calls = b"".join(method(b"Z%03d" % number, 0, segment(CHAINED - number) + b"\1\1") for number in called)
@@ -165,7 +162,7 @@ def scopes_of_no_scope():
     methods and a Device, and behind it others of their paths, and what calls them."""
     declared = {
         b"MTX0": b"\x5B\x01MTX0\0", b"MTH0": method(b"MTH0", 0), b"NAM0": b"\x08NAM0\0", b"ALI0": b"\x06DEV0ALI0",
-        b"MAY0": within_if(device(b"MAY0")) + method(b"MAY0", 0), b"DEV0": b"",
+        b"MAY0": shapes.block(device(b"MAY0")) + method(b"MAY0", 0), b"DEV0": b"",
     }
     names = [segment(number) for number in range(INNER)]
     code = device(b"DEV0")

@@ -48,12 +48,6 @@ def limited(option, limit, *words):
     return ended("sh", "-c", 'ulimit "$0" "$1" 2>/dev/null && shift && exec "$@"', option, str(limit), *words)
 
 
-def least_memory(program):
-    """The least memory with which the program starts at all: below it the system doesn't load it."""
-    runs = ((limit, limited("-v", limit, program, "--version")) for limit in range(LEAST, MOST_TO_START + 1, 500))
-    return next((limit for limit, it in runs if it.status == DONE and "acpidis" in it.out), None)
-
-
 class Checks(Tally):
     def is_whole(self, what, outcome, whole):
         """Whether all came; a want is as good an answer."""
@@ -91,7 +85,9 @@ def main():
     words = asked(__doc__, short=False, stop=False, program=PROGRAM)
     program = words.program
     with Checks(words.stop) as checks:
-        least = least_memory(program)
+        # Below the least memory the system doesn't load the program at all.
+        starts = ((limit, limited("-v", limit, program, "--version")) for limit in range(LEAST, MOST_TO_START + 1, 500))
+        least = next((limit for limit, it in starts if it.status == DONE and "acpidis" in it.out), None)
         if least is None:
             checks.is_so(f"{program} doesn't start, or ulimit -v does nothing here", False)
         print(f"the program starts with {least} KB")

@@ -4,9 +4,8 @@ import random
 import re
 
 from trying import TOP
-from made_code import package_length
+from made_code import LEADS, package_length
 from made_sets import sealed
-from reading import ROWS
 
 LETTERS, DIGITS = "ABCDEFGHIJKLMNOPQRSTUVWXYZ", "0123456789ABCDEFGHIJKLMNOPQRSTUVWXYZ_"
 
@@ -61,19 +60,25 @@ def mixed(count):
     return random.Random(1).sample(range(count), count)
 
 
+ATOM = re.compile(r"\s*(?:(\w+)|'([^']*)'|([][]))(?:\s*\*([0-9]+))?\s*")
+
+
 def bytes_of(text):
-    """Two hexadecimal digits a byte, words of opcodes, texts in single quotes, and in brackets what has a package
-    length in front."""
-    opcodes = {row.mnemonic: f"{opcode:0{2 if opcode < 256 else 4}X}" for opcode, row in ROWS.items()}
-    opened = [b""]
-    for word, plain, bracket in re.findall(r"(\w+)|'([^']*)'|(\]|\[)", text):
+    """Two hexadecimal digits a byte, words of opcodes, texts in single quotes, each repeated by `*N`, and in brackets
+    what has a package length in front."""
+    opened, at = [b""], 0
+    while at < len(text.rstrip()):
+        atom = ATOM.match(text, at)
+        if not atom:
+            raise ValueError(f"no bytes: {text[at:]}")
+        (word, plain, bracket, times), at = atom.groups(""), atom.end()
         if bracket == "[":
             opened.append(b"")
         elif bracket:
             content = opened.pop()
             opened[-1] = packed(opened[-1], content)
         else:
-            opened[-1] += bytes.fromhex(opcodes.get(word, word)) or plain.encode()
+            opened[-1] += (LEADS.get(word) or bytes.fromhex(word) or plain.encode()) * int(times or 1)
     return opened[0]
 
 

@@ -79,10 +79,7 @@ class Definition:
         rows = [line for line in self.code if re.match(r"\s+∷ ", line) or line.endswith(" ∷")]
         self.steps = [step for step in map(STEP.fullmatch, self.code[1:]) if step]
         self.rows = len(self.steps) or (len(rows) if len(rows) >= LEAST_ROWS else 0)
-
-    def counted(self):
-        """Its lines that are no rows."""
-        return 0 if self.steps else len(self.code) - self.rows
+        self.other_lines = 0 if self.steps else len(self.code) - self.rows
 
 
 class Type:
@@ -315,10 +312,6 @@ class Page:
         self.shown += found
         return [it for it in found if not it.is_plain()]
 
-    def kit(self):
-        """The words of the kit's library as they are written: of an operator its sign."""
-        return {re.sub(r"◌.*", "", word.strip("◌")) for definition in self.known for word in definition.kit}
-
     def counts(self):
         comments = sum(line.lstrip().startswith("--") for it in self.known for line in it.lines)
         files = len({(it.file.crate, it.file.name) for it in self.known})
@@ -339,7 +332,7 @@ class Page:
 
 def counts_of(title, definitions, types):
     rows = sum(it.rows for it in definitions)
-    lines = sum(it.counted() for it in definitions)
+    lines = sum(it.other_lines for it in definitions)
     kinds = sum(len(it.code) for it in types)
     minutes = round((lines + kinds) / LINES_A_MINUTE + rows / ROWS_A_MINUTE)
     return f"| {title} | {sum(len(it.names) for it in definitions)} | {lines} | {rows} | {kinds} | {minutes} |"
@@ -374,7 +367,9 @@ def main():
     lost = [word for _, names in [*PARTS, ADDED, PRINTED] for word in sources.named(names)[1]]
     cells = re.findall(r"^\| (`.*?`) \|", head.split("\n## ")[-1], re.MULTILINE)
     words = {word for cell in cells for word in re.findall(r"`([^` ]+)[^`]*`", cell.replace("\\|", "|"))}
-    late, strange, checks = late_in(page.parts), sorted(words ^ page.kit()), Tally()
+    # The words of the kit's library as they are written: of an operator its sign
+    kit = {re.sub(r"◌.*", "", word.strip("◌")) for definition in page.known for word in definition.kit}
+    late, strange, checks = late_in(page.parts), sorted(words ^ kit), Tally()
     checks.is_so(f"tests/meaning.txt: no specs have {lost}", not lost)
     checks.is_so(f"these stand behind what they are made of: {late}", not late)
     checks.is_so(f"tests/meaning_words.md and the definitions: {strange}", not strange)

@@ -44,9 +44,7 @@ class Checks(Tally):
 
     def page(self, outcome: Outcome, *words: str) -> str:
         listing, errors = self.text("text", outcome.out), self.text("errors", outcome.err)
-        run = self.run("page.py", "--errors", errors, *words, listing)
-        self.is_same("status and errors of a page", (run.returncode, run.stderr), (0, ""))
-        return run.stdout
+        return self.says("status and errors of a page", ["page.py", "--errors", errors, *words, listing], 0)
 
     def check_set(self, what: str, folder: pathlib.Path, options: Options, outcome: Outcome) -> Read:
         """Checks the page of a set."""

@@ -11,13 +11,13 @@ and in 5 seconds. It is no part of ./test. The last line is 'N passed, N failed'
 
 import argparse
 import base64
-import fcntl
 import itertools
 import json
 import os
 import pathlib
 import re
 import shutil
+import socket
 import subprocess
 import sys
 import time
@@ -31,33 +31,29 @@ LONGEST_WAIT = 60
 MOST_SECONDS_TO_OPEN = 2
 # The shortest counts, since others may work on the machine.
 OPENINGS = 3
-# The ends of the pipes in chromium are by its own rule these two.
-ITS_INPUT, ITS_OUTPUT = 3, 4
+# What chromium reads from and writes to is by its own rule these two.
+ITS_ENDS = 3, 4
 KEYS = {"/": 191, "Enter": 13, "Escape": 27, "ArrowDown": 40, "ArrowLeft": 37, "ArrowRight": 39, "ArrowUp": 38, "Tab": 9}
 MOST_JUMPS = 60
 
 
 class Browser:
-    """A headless chromium with one tab, which is spoken to through a pair of pipes."""
+    """A headless chromium with one tab, which is spoken to through a pair of sockets."""
 
     def __init__(self, room: str):
-        its_input, self.output = os.pipe()
-        self.input, its_output = os.pipe()
-        ends = [fcntl.fcntl(end, fcntl.F_DUPFD, 10) for end in (its_input, its_output)]
+        self.end, its_end = socket.socketpair()
         words = ["chromium", "--headless", "--disable-gpu", "--hide-scrollbars", "--remote-debugging-pipe"]
         words += [f"--user-data-dir={room}", f"--window-size={WIDTH},{HEIGHT}"]
         words += ["--no-sandbox"] if os.getuid() == 0 else []
 
-        def take_ends() -> None:
-            os.dup2(ends[0], ITS_INPUT)
-            os.dup2(ends[1], ITS_OUTPUT)
+        def take_end() -> None:
+            number = os.dup(its_end.fileno())
+            for end in ITS_ENDS:
+                os.dup2(number, end)
 
-        self.child = subprocess.Popen(
-            words, preexec_fn=take_ends, pass_fds=(ITS_INPUT, ITS_OUTPUT),
-            stdout=subprocess.DEVNULL, stderr=subprocess.DEVNULL,
-        )
-        for end in (*ends, its_input, its_output):
-            os.close(end)
+        how = {"preexec_fn": take_end, "pass_fds": ITS_ENDS}
+        self.child = subprocess.Popen(words, stdout=subprocess.DEVNULL, stderr=subprocess.DEVNULL, **how)
+        its_end.close()
         self.rest, self.calls, self.session, self.events = b"", 0, None, []
         target = self.call("Target.createTarget", url="about:blank")["targetId"]
         self.session = self.call("Target.attachToTarget", targetId=target, flatten=True)["sessionId"]
@@ -66,7 +62,7 @@ class Browser:
 
     def receive(self) -> dict:
         while b"\0" not in self.rest:
-            piece = os.read(self.input, 1 << 16)
+            piece = self.end.recv(1 << 16)
             if not piece:
                 sys.exit("chromium ended")
             self.rest += piece
@@ -78,7 +74,7 @@ class Browser:
         message = {"id": self.calls, "method": method, "params": params}
         if self.session:
             message["sessionId"] = self.session
-        os.write(self.output, json.dumps(message).encode() + b"\0")
+        self.end.sendall(json.dumps(message).encode() + b"\0")
         while True:
             answer = self.receive()
             if answer.get("id") == self.calls:
@@ -162,7 +158,7 @@ class Browser:
         file.write_bytes(base64.b64decode(self.call("Page.captureScreenshot", format="png")["data"]))
 
     def close(self) -> None:
-        os.close(self.output)
+        self.end.close()
         self.child.terminate()
         self.child.wait(LONGEST_WAIT)
 
@@ -196,14 +192,22 @@ def take_steps(browser: Browser, kind: str, picture: pathlib.Path | None, checks
     checks.is_so(f"the browser's log is empty, not {complaints}", not complaints)
 
 
-def look(browser: Browser, url: str, picture: pathlib.Path, checks: Tally) -> None:
-    seconds = min(browser.open(url) for _ in range(OPENINGS))
-    print(f"opened in {seconds:.2f} s")
-    checks.is_so(f"it opens in {MOST_SECONDS_TO_OPEN} s", seconds <= MOST_SECONDS_TO_OPEN)
-    take_steps(browser, "page", picture, checks)
+def look_at_page(browser: Browser, file: pathlib.Path, picture: pathlib.Path, checks: Tally) -> None:
+    look(browser, "page", MOST_SECONDS_TO_OPEN, file, checks, picture)
+    url = file.as_uri()
     asked = [event["request"]["url"] for event in browser.events_of("Network.requestWillBeSent")]
     checks.is_so(f"it asks for itself alone, not {asked}", {one.partition("#")[0] for one in asked} == {url})
     checks.is_so("it keeps no cookie", not browser.call("Network.getCookies")["cookies"])
+
+
+def look(
+    browser: Browser, kind: str, most: float, file: pathlib.Path, checks: Tally, picture: pathlib.Path | None = None
+) -> None:
+    """A page of a kind opens in time, and all holds that is told of those."""
+    seconds, size = min(browser.open(file.as_uri()) for _ in range(OPENINGS)), file.stat().st_size / 1e6
+    print(f"a page of {size:.1f} MB opened in {seconds:.2f} s")
+    checks.is_so(f"{size:.1f} MB open in {most} s, not {seconds:.2f}", seconds <= most)
+    take_steps(browser, kind, picture, checks)
 
 
 def look_at_places(browser: Browser, checks: Tally) -> None:
@@ -214,15 +218,6 @@ def look_at_places(browser: Browser, checks: Tally) -> None:
         if not browser.until(f"tells({json.dumps(path)})"):
             wrong.append((path, browser.value("[file.textContent, here.textContent]")))
     checks.is_so(f"the bar tells the place of each of {len(declared)} paths, not {wrong[:5]}", declared and not wrong)
-
-
-def look_at_large(browser: Browser, most: float, file: pathlib.Path, checks: Tally) -> None:
-    """A page with packed parts opens in time."""
-    seconds = min(browser.open(file.resolve().as_uri()) for _ in range(OPENINGS))
-    size = file.stat().st_size / 1e6
-    print(f"a page of {size:.1f} MB opened in {seconds:.2f} s")
-    checks.is_so(f"{size:.1f} MB open in {most} s, not {seconds:.2f}", seconds <= most)
-    take_steps(browser, "large", None, checks)
 
 
 # What a large listing begins with, the rows and the lines of each of its devices, and what stands between them and
@@ -260,20 +255,20 @@ def look_at_all(browser: Browser, words: argparse.Namespace, checks: Tally) -> N
     errors = ["--errors", words.errors.resolve()] if words.errors else []
     for given in words.listings:
         page = page_of(checks, "text", given.read_text(), *errors)
-        look(browser, page.as_uri(), picture, checks)
+        look_at_page(browser, page, picture, checks)
     if words.listings:
         return
     outcome = run_folder(written(checks.room / "set", HOSTILE_FILES), Options())
     said = checks.text("errors", outcome.err)
     page = page_of(checks, "text", outcome.out, "--name", "a made-up set", "--errors", said)
-    look(browser, page.as_uri(), picture, checks)
+    look_at_page(browser, page, picture, checks)
     other = outcome.out
     for word, changed in OTHERS.items():
         other = other.replace(word, changed, 1)
     browser.open(page_of(checks, "compared", outcome.out, "--compare", checks.text("other", other)).as_uri())
     take_steps(browser, "comparison", None, checks)
     for size, seconds in LARGE.items():
-        look_at_large(browser, seconds, page_of(checks, f"{size} MB", listing(size * 1_000_000)), checks)
+        look(browser, "large", seconds, page_of(checks, f"{size} MB", listing(size * 1_000_000)), checks)
 
 
 def main() -> None:

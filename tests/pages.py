@@ -37,19 +37,9 @@ MOST_PAGES, MOST_WORDS_OF_PAGES = 15, 24000
 MADE_UP = {"draw_copy1", "Lts"}
 SCRIPTS = ["tests/meaning.py", "tests/survey.sh", "tests/install.sh", "tests/examples.py", "tests/library.sh"]
 
-# In place of ssh: each host has the tables of `mine`, but for one that doesn't answer.
-SSH = """#!/bin/sh
-while [ "$1" != -- ]; do shift; done
-if [ "$2" = dead ]; then
-    echo "ssh: connect to host $2 port 22: Connection timed out" >&2
-    exit 255
-fi
-exec tar -C mine -cf - .
-"""
-
 
 def make_room(room, is_installed):
-    commands = {"bin/ssh": SSH}
+    commands = {"bin/ssh": (TOP / "tests/ssh.sh").read_text()}
     if is_installed:
         program = {"PROGRAM": str(TOP / "out/acpidis"), "PREFIX": str(room), "DESTDIR": ""}
         subprocess.run([TOP / "install"], env={**os.environ, **program}, stdout=subprocess.DEVNULL, check=True)

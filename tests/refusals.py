@@ -38,20 +38,25 @@ def is_right(outcome, whole, how, is_refused):
     return is_refused and outcome in (WANTS[1:] if how == START else WANTS)
 
 
+def counted(room, shim, command, *variables):
+    """How a command ends over the library of refusals.c, and what that counted."""
+    words = ["timeout", "60", "env", *variables, f"LD_PRELOAD={shim}", *command]
+    with tempfile.NamedTemporaryFile("r", dir=room) as file:
+        return ended("sh", "-c", 'exec "$@" 3>"$0"', file.name, *words, cwd=room), [*map(int, file.read().split())]
+
+
 def sweep(room, shim, how, command):
     """Refuses the calls of a command one after the other: how many of its answers are right, what is said, and whether
     all are. The last run is the first in which there is no call to refuse: one that is refused counts."""
     whole, shown = ended(*command, cwd=room), " ".join(map(str, command)).removeprefix(f"{TOP}/")
     for number in itertools.count(1):
-        words = ["timeout", "60", "env", f"{how}={number}", "REFUSED=0", f"LD_PRELOAD={shim}", *command]
-        with tempfile.NamedTemporaryFile("r", dir=room) as file:
-            outcome, counts = ended("sh", "-c", 'exec "$@" 3>"$0"', file.name, *words, cwd=room), file.read()
-        growths, starts, refused, joins, *_ = map(int, counts.split() or [0, 0, 0, -1])
+        outcome, counts = counted(room, shim, command, f"{how}={number}", "REFUSED=0")
+        growths, starts, refused, joins, *_ = counts or [0, 0, 0, -1]
         calls = starts if how == START else growths
         # A test knows by itself whether a want is an answer.
         is_test = command[0] == TESTS and outcome.status == whole.status == DONE
         if joins != starts - refused or not (is_test or is_right(outcome, whole, how, calls >= number)):
-            said = f"FAILED {how}={number} {shown}: status {outcome.status}, counts {counts}{outcome.err}"
+            said = f"FAILED {how}={number} {shown}: status {outcome.status}, counts {counts}, {outcome.err}"
             return number - 1, said, False
         if calls < number:
             return number, f"{how} {shown}: {calls}", True

@@ -26,7 +26,6 @@ from tally import TOP, Tally, executable, tables_in
 LEFT_OUT = shutil.ignore_patterns(".git", "out", "__pycache__", "must-fail", "proofs", "wrong-bodies.edits")
 # The program, and its copy by which the scripts run it
 PROGRAM, PLACED = "crates/acpidis_program/out/acpidis_program", "out/acpidis"
-POOL = "crates/pool_bench/out/pool_bench"
 DEMO = "crates/acpidis_program/stdout"
 LONGEST = 300
 
@@ -35,12 +34,6 @@ REFUSES = f"#!/bin/sh\n{KNOWN}echo 'acpidis: NoMemory' >&2\nexit 1\n"
 EMPTY = f"#!/bin/sh\n{KNOWN}exit 0\n"
 ONE_TEXT = f"#!/bin/sh\n{KNOWN}exec cat '{TOP / DEMO}'\n"
 STUBS = {"refuses": REFUSES, "prints nothing": EMPTY, "prints one text": ONE_TEXT}
-# What the harvests of tests/pool_refusals.sh answer
-POOL_STUBS = {
-    "refuses": "#!/bin/sh\necho 'no memory'\n",
-    "prints nothing": "#!/bin/sh\n",
-    "is always whole": "#!/bin/sh\necho whole\n",
-}
 COMPILERS = {"cc", "gcc", "clang", "c89", "c99"}
 # The scripts that take the program; others, each with a file in which something is wrong; what is told of empty pages
 OF_PROGRAM, WRONG, EMPTY_PAGES = tables_in("stubs.txt")
@@ -54,12 +47,6 @@ def trials(room):
     """All trials. Folders of commands are made in the room."""
     for script, (what, text) in itertools.product(OF_PROGRAM, STUBS.items()):
         yield Trial(f"{script}, a program that {what}", script.split(), placed(text))
-    for what, text in POOL_STUBS.items():
-        yield Trial(f"tests/pool_refusals.sh, a program that {what}", ["tests/pool_refusals.sh", "starts"], {POOL: text})
-    for what, text in STUBS.items():
-        page = {"examples/page.py": f"import os\nos.execv('{room}/{what}', ['page'])\n"}
-        executable(room / what, text)
-        yield Trial(f"tests/page.py, a script that {what}", ["tests/page.py", "--sets", "1"], page)
     for what in ("refuses", "prints nothing"):
         yield Trial(f"tests/costs.py, a program that {what}", ["tests/costs.py"], placed(STUBS[what]))
     for script, what, file, old, new in (map(str.strip, line.split("|")) for line in WRONG):

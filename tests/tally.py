@@ -1,5 +1,5 @@
-"""What the tests beside this file share: where what they try lies, and counts of what passes and what fails. It tells
-the others' places, so it comes before them."""
+"""What the tests beside this file share: where what they try lies, and counts of what passes and what fails. It comes
+before the others, since it tells where they are."""
 
 from __future__ import annotations
 
@@ -16,8 +16,7 @@ import tempfile
 import types
 from collections.abc import Callable
 
-PLACES = [pathlib.Path(__file__).resolve().parent.parent / it for it in ("tests/oracle", "tests", "examples", "bench")]
-sys.path[1:1] = map(str, PLACES)
+sys.path.insert(1, str(pathlib.Path(__file__).resolve().parent / "oracle"))
 from trying import PROGRAM, TOP, asked, end, first_difference, run, written  # noqa: E402, F401
 
 DEMO = TOP / "crates/acpidis_program/data/demo"
@@ -62,12 +61,18 @@ class Tally:
         """Runs a script of examples/ in the room."""
         return run_script(script, *words, **{"cwd": self.room, **more})
 
-    def fills_disk(self, script: str, *words: object, **more: object) -> None:
+    def says(self, what: str, words: list, status: int, said="", printed=None, **more: object) -> str:
+        """What a script prints that has to end so, with this on standard error, and on standard output if told."""
+        run = run_script(*words, **{"cwd": self.room, **more})
+        got = run.returncode, run.stderr, run.stdout if printed is not None else None
+        self.is_same(what, got, (status, said, printed))
+        return run.stdout
+
+    def fills_disk(self, script: str, *words: object) -> None:
         """Whether a script says so whose standard output takes nothing, and ends with status 2."""
         with open("/dev/full", "wb") as full:
-            run = run_script(script, *words, stdout=full, **more)
-        said = f"acpidis-{script.removesuffix('.py')}: cannot write: No space left on device\n"
-        self.is_same(f"{script}, a full disk", (run.returncode, run.stderr), (2, said))
+            said = f"acpidis-{script.removesuffix('.py')}: cannot write: No space left on device\n"
+            self.says(f"{script}, a full disk", [script, *words], 2, said, stdout=full)
 
     def text(self, name: str, text: str) -> pathlib.Path:
         """A file of the room with this text."""

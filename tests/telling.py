@@ -5,7 +5,7 @@ import random
 from collections.abc import Iterator
 
 from tally import DEMO, written
-from any_run import RunNamespace, RunReader
+from any_run import Namespace, RunReader
 from compare import laid
 from dumps import aml_of, order_of
 from folders import read_folder
@@ -63,7 +63,7 @@ def samples(room: pathlib.Path, folders: list, sets: int) -> Iterator[tuple[str,
 # ---- what the independent reading says of each name
 
 
-class Watched(RunNamespace):
+class Watched(Namespace):
     """Keeps where the names of Scopes and the sources of Aliases led while the tables were loaded, what the names of
     code outside methods meant, and the paths of which an External says that they are methods. Without that code all is
     sure."""
@@ -120,7 +120,7 @@ def names_in(term: object) -> list[Name]:
     return [name for part in (*term.parts, *elements) for name in names_in(part)]
 
 
-def may_mean(space: RunNamespace, scope: Path, name: Name, own: dict) -> list[Path]:
+def may_mean(space: Namespace, scope: Path, name: Name, own: dict) -> list[Path]:
     """The paths that a name may mean, the nearest first, up to one that stands in every run (docs/names.md)."""
     found = []
     for path in name.candidates(scope):

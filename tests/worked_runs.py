@@ -22,12 +22,6 @@ RUNS = ["worked_runs.txt", "worked_runs_any_run.txt"]
 MARGIN = "  "
 
 
-def files_of(dumps):
-    """The files of a set, with the map of their addresses where they have any."""
-    places = "".join(f"{dump.address:016X} {dump.name}\n" for dump in dumps if dump.address is not None)
-    return {dump.name: dump.data for dump in dumps} | ({MAP_NAME: places.encode()} if places else {})
-
-
 class ProgramRows(Rows):
     """Rows whose runs are those of the program."""
 
@@ -37,7 +31,9 @@ class ProgramRows(Rows):
 
     def run(self, options):
         counts = "".join(f"{path_text(path)} {count}\n" for path, count in self.given).encode()
-        with laid(Trial(files_of(self.dumps), options, counts or None)) as laid_out:
+        places = "".join(f"{it.address:016X} {it.name}\n" for it in self.dumps if it.address is not None)
+        files = {it.name: it.data for it in self.dumps} | ({MAP_NAME: places.encode()} if places else {})
+        with laid(Trial(files, options, counts or None)) as laid_out:
             return run_program(self.program, *laid_out)
 
 

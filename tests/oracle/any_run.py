@@ -1,10 +1,11 @@
-"""Code outside methods, as --any-run reads it, after docs/any_run.md: its terms are read from
-the left, each with the counts of what stands before it, and declare what then stands surely or only may stand."""
+"""The namespace of several tables after docs/names.md, and code outside methods, as --any-run reads it, after
+docs/any_run.md: its terms are read from the left, each with the counts of what stands before it, and declare what then
+stands surely or only may stand. Without that option all that tables declare stands surely."""
 
 from collections import namedtuple
 from dataclasses import dataclass
 
-from loading import MOST_METHODS, PREDEFINED, Loaded, Method, Namespace, own_count, path_text, placed
+from loading import MOST_METHODS, PREDEFINED, Loaded, Method, own_count, path_text, placed, uses_in
 from reading import ALIAS, EXTERNAL, FIELD_LISTS, KINDS, METHOD, ROWS, SCOPE, SCOPES, Reader, Refused
 
 # The kinds of paths that a Scope opens in every run that has them
@@ -15,13 +16,15 @@ SCOPE_KINDS = {"Scope", *(KINDS[opcode] for opcode in SCOPES - {SCOPE})}
 Use = namedtuple("Use", "table scope name count in_declaration")
 
 
-class RunNamespace(Namespace):
-    """What stands after a run, whichever it is. `declarations` are those of a path in their order, each a kind and whether
-    it is sure. The kind of an Alias has its target, and whether it is open: the target may be another in some run."""
+class Namespace:
+    """What stands after a run, whichever it is. `declarations` are those of a path in their order, each a kind and
+    whether it is sure. The kind of an Alias has its target, and whether it is open: the target may be another in some
+    run. `given` are the counts of arguments that no table says: paths with counts, of which the greatest holds."""
 
     def __init__(self, given=()):
-        super().__init__(given)
-        self.declarations = {}
+        self.declarations, self.externals, self.methods, self.uses, self.given = {}, {}, [], [], {}
+        for path, count in given:
+            self.give(path, count)
 
     def kinds_of(self, path):
         """What may stand at a path: the kinds up to the first sure one, or all and the predefined one."""
@@ -81,16 +84,35 @@ class RunNamespace(Namespace):
 
         return count
 
+    def given_count(self, scope, name):
+        """The count that is given to the first candidate of a name that has one."""
+        return next((self.given[path] for path in name.candidates(scope) if path in self.given), None)
+
+    def give(self, path, count):
+        self.given[path] = max(self.given.get(path, 0), count)
+
+    def add_external(self, path, count):
+        self.externals[path] = max(self.externals.get(path, 0), count)
+
+    def first(self, scope, name, declared=()):
+        """The first candidate of a name that something declares; else the first of which an External tells."""
+        candidates = name.candidates(scope)
+        found = (path for path in candidates if path in declared or self.kinds_of(path))
+        return next(found, next((path for path in candidates if path in self.externals), None))
+
     def find(self, scope, name, declared=()):
         """Where a name leads in every run, or None."""
-        candidates = name.candidates(scope)
-        for number, path in enumerate(candidates):
-            if path in declared:
-                return path
-            if self.kinds_of(path):
-                is_undecided = not self.is_sure(path) and any(map(self.is_known, candidates[number + 1:]))
-                return None if is_undecided else path
-        return next((path for path in candidates if path in self.externals), None)
+        path, candidates = self.first(scope, name, declared), name.candidates(scope)
+        if path in declared or self.is_sure(path) or not self.kinds_of(path):
+            return path
+        return None if any(map(self.is_known, candidates[candidates.index(path) + 1:])) else path
+
+    def lead(self, scope, name, missing):
+        """Where the name of a Scope or an Alias' source leads."""
+        path, found = placed(scope, name), self.find(scope, name)
+        if found is None:
+            raise Refused(missing, path=path_text(path))
+        return found
 
     def opened(self, scope, name):
         """The path that a Scope opens, and whether every run goes inside."""
@@ -139,7 +161,7 @@ def agreed(counts):
 class RunReader(Reader):
     """Reads a table whose terms may run. `scope` is where the code stands, and `is_sure` whether what it declares is."""
 
-    space: RunNamespace | None = None
+    space: Namespace | None = None
     table: int = 0
     scope: tuple = ()
     is_sure: bool = True
@@ -203,17 +225,48 @@ class RunReader(Reader):
         return path, is_sure and not is_again
 
 
-def load(codes, given=(), unknown_zero=False):
-    """Reads and loads the AML of tables in load order, from the left, and then looks at each count that was read again."""
-    loaded, table = Loaded(codes, [], RunNamespace(given)), None
+class TreeLoader(RunReader):
+    """Loads a table that was read as one without code to be run: each of its paths is declared once, surely."""
+
+    def load(self, terms):
+        for term in terms:
+            self.space.uses += [Use(self.table, self.scope, name, 0, True) for name in uses_in(term)]
+            if term.row.tail == "t":
+                outside = self.scope
+                self.scope, _ = self.inside(term)
+                self.load(term.tail)
+                self.scope = outside
+            self.leave(term)
+
+    def inside(self, term):
+        if term.opcode != SCOPE:
+            return super().inside(term)
+        return self.space.lead(self.scope, term.names()[0], "ScopeMissing"), True
+
+    def declare(self, name, kind, has_source=True, method=None):
+        path, is_again = self.space.declare_so(self.scope, name, kind, True, method)
+        if is_again or path == ():
+            raise Refused("Duplicate", path=path_text(path))
+        return path, True
+
+
+def load(codes, given=(), any_run=False, unknown_zero=False):
+    """Reads and loads the AML of tables in load order, with code to be run from the left, and then looks at each count
+    that was read again."""
+    loaded, table = Loaded(codes, [], Namespace(given)), None
+    space = loaded.space
     try:
         for table, code in enumerate(codes):
-            loaded.trees.append(RunReader(code, space=loaded.space, table=table).read())
-        for use in loaded.space.uses:
+            if any_run:
+                loaded.trees.append(RunReader(code, space=space, table=table).read())
+            else:
+                loaded.trees.append(Reader(code).read())
+                TreeLoader(code, space=space, table=table).load(loaded.trees[-1])
+        for use in space.uses:
             table, path = use.table, use.name.placed(use.scope)
             # It may have another number of arguments after all tables than where it was read.
-            if loaded.space.arity(use.scope, unknown_zero or use.in_declaration)((), use.name) != use.count:
-                raise Refused("ModuleCall", path=None if path is None else path_text(path))
+            if space.arity(use.scope, unknown_zero or use.in_declaration)((), use.name) != use.count:
+                raise Refused("ModuleCall", path=path_text(path) if any_run and path is not None else None)
     except Refused as fault:
         fault.table = None if fault.name == "TooManyMethods" else table
         raise

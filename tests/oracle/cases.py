@@ -6,36 +6,20 @@
 It shares nothing with the program: the modules beside it read code, namespaces, tables and whole sets after docs/.
 """
 
-import re
 import sys
 
-import trying  # noqa: F401
+import trying  # noqa: F401, which tells where the others lie
 from dumps import RECORDS, Bad, Dump, addresses_of, little, order_of, records_of
 from folders import LineFault, parse_externals, parse_map
-from any_run import RunNamespace
-from loading import Body, Namespace, path_text
-from made_sets import sealed
+from any_run import Namespace
+from loading import Body, path_text
+from made_aml import bytes_of, table
 from printing import hexadecimal, row_text, term_lines
 from reading import IF, METHOD, Name, Op, Reader, Refused
 from running import FLAGS, Options, run
 
-HEADER = b"\x02\0TEST  EXAMPLE \x01\0\0\0TEST\x01\0\0\0"
 WIDTHS = {1: "One", 2: "Two", 3: "Three", 4: "Four"}
 FORMS = {0x00: "Null", 0x2E: "Dual", 0x2F: "Multi"}
-ATOM = re.compile(r"\s+|(?:([0-9A-F]{2})|'([^']*)')(?:\s*\*([0-9]+))?(?=\s|$)")
-
-
-def bytes_of(text):
-    """Two hexadecimal digits or text in single quotes, each repeated by `*N`."""
-    data, at = b"", 0
-    while at < len(text):
-        atom = ATOM.match(text, at)
-        if not atom:
-            raise ValueError(f"no bytes: {text[at:]}")
-        digits, plain, times = atom.groups()
-        unit = bytes.fromhex(digits) if digits else (plain or "").encode()
-        data, at = data + unit * int(times or 1), atom.end()
-    return data
 
 
 def name_of(text):
@@ -163,6 +147,12 @@ def declaration_of(words):
     return name_of(path), ("Method", int(more[0])) if word == "Method" else (word,)
 
 
+def first_count(names, path):
+    """The count of what is declared first at a path, with that of the target of an open Alias too, or of Externals."""
+    kind = names.kind(path)
+    return names.counts_of((*kind[:2], False))[0] if kind else names.externals.get(path)
+
+
 def kind_text(names, path):
     kind = names.kind(path)
     return or_none(kind and row_text(path, kind))
@@ -176,7 +166,7 @@ OF_PATH = {
     ],
     "scope": lambda names, path: ["a scope" if names.is_sure(path) and names.is_scope(path) else "no scope"],
     "alias": lambda names, path: ["open" if names.alias_of(path)[2] else "not open"],
-    "count": lambda names, path: or_none(names.count(path)),
+    "count": lambda names, path: or_none(first_count(names, path)),
     "kind": kind_text,
     "counted": lambda names, path: [*kind_text(names, path), "few comparisons"],
 }
@@ -184,9 +174,9 @@ OF_PATH = {
 # declarations, in every run, and in the body.
 OF_NAME = {
     "place": lambda _, scope, name, __: path_or_none(name.placed(scope)),
-    "find": lambda names, scope, name, _: path_or_none(Namespace.find(names, scope, name)),
+    "find": lambda names, scope, name, _: path_or_none(names.first(scope, name)),
     "lead": lambda names, scope, name, _: path_or_none(names.find(scope, name)),
-    "search": lambda names, scope, name, declared: path_or_none(Namespace.find(names, scope, name, declared)),
+    "search": lambda names, scope, name, declared: path_or_none(names.first(scope, name, declared)),
     "arity": lambda names, scope, name, declared: or_none(names.arity(scope)(declared, name)),
     "arity_unknown_zero": lambda names, scope, name, declared: or_none(names.arity(scope, True)(declared, name)),
 }
@@ -201,7 +191,7 @@ class Rows:
 
     def __init__(self):
         self.dumps, self.given = [], []
-        self.names, self.declared = RunNamespace(), set()
+        self.names, self.declared = Namespace(), set()
 
     def answer(self, row):
         """The lines that stand below a row."""
@@ -235,7 +225,7 @@ class Rows:
                 self.dumps, self.given = [], []
             case "dump":
                 name, signature = words.split(" ")
-                self.of_sets("raw", name, sealed(signature.encode() + bytes(4) + HEADER + data))
+                self.of_sets("raw", name, table(signature.encode(), data))
             case "raw":
                 name, _, address = words.partition("@")
                 self.dumps.append(Dump(name, int(address, 16) if address else None, data))
@@ -266,7 +256,7 @@ class Rows:
             case "method":
                 return text_of(Reader(data, self.names.arity(path_of(words)), path_of(words)))
             case "space":
-                self.names, self.declared = RunNamespace(), set()
+                self.names, self.declared = Namespace(), set()
             case "declare" | "again" | "maybe":
                 name, declared = declaration_of(words)
                 if kind == "declare" and tuple(name.segs) in self.names.declarations:

@@ -4,6 +4,8 @@ somewhere."""
 from loading import PREDEFINED
 from reading import ALIAS, BUFFER, ELSE, EXTERNAL, FIELD_LISTS, IF, METHOD, MOST_LEVELS, ROWS, SCOPE, SCOPES, Name
 
+# The bytes of each opcode by its word
+LEADS = {row.mnemonic: opcode.to_bytes(1 if opcode < 256 else 2, "big") for opcode, row in ROWS.items()}
 PLAIN_VALUES = [0x00, 0x01, 0xFF, 0x60, 0x61, 0x68, 0x0A, 0x0B, 0x0C, 0x0E, 0x0D, 0x5B30, 0x5B31, 0x5B33]
 VALUES = [opcode for opcode, row in ROWS.items() if row.group in ("value", "expression")]
 PLAIN_TARGETS = [0x60, 0x68, 0x5B31]
@@ -250,7 +252,7 @@ class Maker(Chancy):
         row = ROWS[opcode]
         code = self.parts(opcode, depth + 1, inside)
         code += self.tail(row.tail, opcode, depth + 1, inside)
-        lead = bytes([opcode]) if opcode < 256 else bytes([0x5B, opcode & 0xFF])
+        lead = LEADS[row.mnemonic]
         return self.packed(lead, code) if row.packed else lead + code
 
     def parts(self, opcode, depth, inside):

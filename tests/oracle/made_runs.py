@@ -3,13 +3,15 @@ with arguments, Scopes of what nothing declares and of what is no scope, declara
 names that only may stand, Aliases of what may be another Alias, and counts that differ."""
 
 import contextlib
+import copy
 import functools
 
-from any_run import RunNamespace
+from any_run import Namespace, RunReader
 from made_code import ARGUMENT_COUNTS, IN_DEEP_TABLES, IN_TABLES, MOST_DEPTH, MOST_SEGMENTS, Maker
-from reading import ALIAS, ELSE, EXTERNAL, IF, KINDS, METHOD, MOST_LEVELS, RETURN, ROWS, SCOPES, Name
+from made_terms import TermMaker, code_of, joined
+from reading import ALIAS, ELSE, EXTERNAL, IF, KINDS, METHOD, MOST_LEVELS, RETURN, ROWS, SCOPES, Name, Refused
 
-WHILE, DEVICE, BYTE = 0xA2, 0x5B82, 0x0A
+WHILE, BYTE = 0xA2, 0x0A
 STATEMENTS = [opcode for opcode, row in ROWS.items() if row.group == "statement" and opcode not in (IF, ELSE, WHILE, RETURN)]
 IN_RUNS = IN_TABLES + [IF] * 14 + [WHILE] * 2 + STATEMENTS + [0x70] * 2
 MOST_TRIES = 5
@@ -25,7 +27,7 @@ class RunMaker(Maker):
 
     def __init__(self, chance, gives=False, segments=0):
         super().__init__(chance, gives, segments)
-        self.space, self.is_sure, self.opened_is_sure = RunNamespace(), True, True
+        self.space, self.is_sure, self.opened_is_sure = Namespace(), True, True
         self.opcode, self.alias_source, self.in_declaration = None, (), False
         if gives:
             self.given = {path: count for path, count in self.methods.items() if self.happens(0.4)}
@@ -67,10 +69,8 @@ class RunMaker(Maker):
 
     def run_term(self, depth):
         self.in_declaration = False
-        if depth < MOST_DEPTH and self.happens(0.06):
-            scenes = (self.shadow, self.shadow, self.aliased, self.imported, self.again, self.predefined)
-            scenes += (self.chained, self.chained, self.missed_alias, self.missed_parent, self.missed_scope)
-            return self.chance.choice(scenes)(depth + 1)
+        if depth < MOST_DEPTH and self.happens(0.1):
+            return self.scene(depth + 1)
         if self.happens(0.1):
             return self.value(depth, "table")
         if self.is_strange("table") and self.happens(0.4):
@@ -86,19 +86,14 @@ class RunMaker(Maker):
         content = b"\0" + b"".join(self.operation(EXTERNAL, depth, "table") for _ in range(self.chance.randrange(3)))
         return self.packed(b"\xA0", content)
 
-    @contextlib.contextmanager
-    def at(self, scope, is_sure):
-        """Code in a scope, where what it declares may be as sure as what stands around it."""
-        outside = self.scope, self.is_sure
-        self.scope, self.is_sure = scope, self.is_sure and is_sure
-        yield
-        self.scope, self.is_sure = outside
-
     def block(self, opcode, depth, inside):
         if inside != "table":
             return super().block(opcode, depth, inside)
-        with self.at(*((self.opened, self.opened_is_sure) if opcode in SCOPES else (self.scope, False))):
-            return self.terms(depth, "table")
+        outside, is_sure = (self.scope, self.is_sure), opcode in SCOPES and self.opened_is_sure
+        self.scope, self.is_sure = self.opened if opcode in SCOPES else self.scope, self.is_sure and is_sure
+        code = self.terms(depth, "table")
+        self.scope, self.is_sure = outside
+        return code
 
     def parts(self, opcode, depth, inside):
         self.opcode = opcode
@@ -211,135 +206,32 @@ class RunMaker(Maker):
 
     # ---- scenes
 
-    def maybe(self, declare, *parts):
-        """A declaration in an If."""
-        with self.at(self.scope, False):
-            return self.packed(b"\xA0", b"\1" + declare(*parts))
+    def scene(self, depth):
+        """Terms that meet at few paths, as they load behind what stands so far, and methods that call what may stand
+        there."""
+        for _ in range(MOST_TRIES):
+            maker, space = TermMaker(self.chance), copy.deepcopy(self.space)
+            terms = self.chance.choice((maker.chained, maker.chained, maker.opened, maker.missed))
+            code = code_of(terms() if self.happens(0.5) else joined(maker.scenery(self.scope)))
+            with contextlib.suppress(Refused):
+                RunReader(code, space=space, scope=self.scope, is_sure=self.is_sure).read()
+                self.space, paths = space, [path for path in maker.paths if space.is_known(path)] or [("_OSI",)]
+                self.known = {path: next(filter(None, space.counts(path)), 0) for path in paths} | self.known
+                return code + b"".join(self.caller(depth, paths) for _ in range(self.chance.choice((1, 2, 3))))
+        return b""
 
-    def sure_method(self, name, count):
-        """A method that is as sure as the code around it."""
+    def caller(self, depth, paths):
+        """A method somewhere among these paths that calls what may stand at one of them, with one of the counts that
+        are told, now and then behind a local path."""
+        path = self.chance.choice(paths)
+        name = Name(False, 0, [path[-1]]) if len(path) > MOST_SEGMENTS or self.happens(0.5) else self.root_name(path)
+        method = (*self.chance.choice([self.scope, *paths, *(it[:-1] for it in paths)]), self.fresh_segment())
+        counts = [count for count in self.space.counts_met(method, name, ()) if count is not None]
+        count = self.chance.choice([*counts, *counts, self.chance.choice(ARGUMENT_COUNTS)])
+        if self.gives and self.happens(0.5):
+            self.given[path] = count
         self.opcode = METHOD
-        return self.method(self.declared_name(name, count), self.opened, count)
-
-    def alias(self, source, name):
-        self.opcode, self.alias_source = ALIAS, self.space.find(self.scope, source) or ()
-        return b"\x06" + self.spelled(source) + self.declared_name(name, self.known.get(self.alias_source, 0))
-
-    def device(self, name, declare=bytes, *parts):
-        """A Device, with a declaration inside."""
-        self.opcode = DEVICE
-        code = self.declared_name(name, 0)
-        with self.at(self.opened, self.opened_is_sure):
-            return self.packed(b"\x5B\x82", code + declare(*parts))
-
-    def fresh(self):
-        return Name(False, 0, [self.fresh_segment()])
-
-    def two_counts(self):
-        return self.chance.choice(ARGUMENT_COUNTS), self.chance.choice(ARGUMENT_COUNTS)
-
-    def caller(self, depth, name, counts, front=b""):
-        """A method that calls a name with one of these counts of arguments."""
-        self.opcode = METHOD
-        content = self.declared_name(self.fresh_name("table"), 0) + b"\0" + front + self.spelled(name)
-        content += b"".join(self.operation(BYTE, depth, "body") for _ in range(self.chance.choice(counts)))
+        content = self.declared_name(self.leading_name(method), 0) + b"\0"
+        content += b"\x08" + self.spelled(self.root_name(path)) + b"\0" if self.happens(0.1) else b""
+        content += self.spelled(name) + b"".join(self.operation(BYTE, depth, "body") for _ in range(count))
         return self.packed(b"\x14", content)
-
-    def shadow(self, depth):
-        """A Device in which a method of an outer name only may stand, and what uses that name there."""
-        outer = self.chance.choice([("_OSI",), *(path for path, count in self.known.items() if path and count)])
-        name, count = Name(False, 0, [outer[-1]]), self.known[outer]
-        other = self.same_or_other(count)
-        return self.device(self.fresh_name("table"), self.shadowed, depth, outer, name, (count, other))
-
-    def shadowed(self, depth, outer, name, counts):
-        count, other = counts
-        code = self.maybe(self.sure_method, name, other)
-        if self.gives and self.happens(0.5):
-            self.given |= {outer: count, name.placed(self.scope): other}
-        local = b"\x08" + self.spelled(self.root_name(outer)) + b"\0"
-        code += self.caller(depth, name, (count, other, 0), local if self.happens(0.2) else b"")
-        return code + self.packed(b"\x10", self.spelled(name)) if self.happens(0.06) else code
-
-    def aliased(self, depth):
-        """Two branches with a method of one path, an Alias of it, and what calls this one."""
-        name, count = self.fresh_name("table"), self.chance.choice(ARGUMENT_COUNTS)
-        other = self.same_or_other(count)
-        code = self.maybe(self.sure_method, name, count)
-        code += self.packed(b"\xA1", self.maybe(self.sure_method, name, other))
-        alias = self.fresh()
-        code += self.alias(name, alias)
-        return code + self.caller(depth, alias, (count, other))
-
-    def again(self, depth):
-        """A Device of a path that is declared already."""
-        self.opcode = DEVICE
-        device = self.declared_name(self.root_name(self.chance.choice([path for path in self.known if path])), 0)
-        return self.packed(b"\x5B\x82", device + self.block(DEVICE, depth, "table"))
-
-    def chained(self, depth):
-        """A path that may be an Alias of one method, of another, or something else, Aliases of it, and a call."""
-        counts = [self.chance.choice(ARGUMENT_COUNTS) for _ in range(3)]
-        methods = [self.fresh() for _ in range(2)]
-        code = b"".join(self.sure_method(name, count) for name, count in zip(methods, counts))
-        source, aliases = self.fresh(), [self.fresh() for _ in range(self.chance.choice((1, 1, 2)))]
-        for method in methods:
-            how = self.chance.random()
-            code += self.maybe(self.alias, method, source) if how < 0.7 else b""
-            code += self.maybe(self.sure_method, source, counts[2]) if how > 0.6 else b""
-        if self.happens(0.2) or not self.space.kinds_of(source.placed(self.scope)):
-            code += self.alias(methods[0], source)
-        for one, other in zip([source, *aliases], aliases):
-            code += self.alias(one, other)
-        if self.gives and self.happens(0.5):
-            self.given[aliases[-1].placed(self.scope)] = self.chance.choice(counts)
-        return code + self.caller(depth, aliases[-1], counts)
-
-    def missed_alias(self, depth):
-        """An Alias of a method that only may stand, a method of its name, and what calls that."""
-        source, name, (count, other) = self.fresh(), self.fresh(), self.two_counts()
-        code = self.maybe(self.sure_method, source, count) + self.alias(source, name)
-        return code + self.sure_method(name, other) + self.caller(depth, name, (count, other))
-
-    def missed_parent(self, depth):
-        """A Device that only may stand so far, or doesn't; a method by a path below it, or a Device there with a method
-        at the root; then the Device with a method of the same path; and what calls this."""
-        device, inner, outer, (count, other) = self.fresh(), self.fresh(), self.fresh(), self.two_counts()
-        below, path = Name(False, 0, [*device.segs, *inner.segs]), (*device.placed(self.scope), *inner.segs)
-        is_device = self.happens(0.3)
-        code = self.maybe(self.device, device) if self.happens(0.7) else b""
-        if is_device:
-            code += self.device(below, self.sure_method, self.root_name(outer.segs), count)
-        else:
-            code += self.sure_method(below, count)
-        code += self.device(device, self.sure_method, self.root_name(outer.segs) if is_device else inner, other)
-        return code + self.caller(depth, self.root_name(outer.segs if is_device else path), (count, other))
-
-    def missed_scope(self, depth):
-        """What may be no scope, a Scope of it with a method, another method of the same path, and what calls it."""
-        opened, inner, (count, other) = self.fresh(), self.fresh(), self.two_counts()
-        code = self.maybe(self.device, opened) if self.happens(0.5) else b""
-        if self.happens(0.5):
-            code += self.sure_method(opened, 0)
-        else:
-            device = self.fresh()
-            code += self.device(device) + self.alias(device, opened)
-        path, scope = opened.placed(self.scope), self.spelled(opened)
-        with self.at(path, self.space.is_sure(path) and self.space.is_scope(path)):
-            code += self.packed(b"\x10", scope + self.sure_method(inner, count))
-        code += self.sure_method(Name(False, 0, [*opened.segs, *inner.segs]), other)
-        return code + self.caller(depth, self.root_name((*path, *inner.segs)), (count, other))
-
-    def predefined(self, depth):
-        """A method at a predefined path that only may stand, and what calls it."""
-        name, count = Name(True, 0, ["_OSI"]), self.same_or_other(1)
-        return self.maybe(self.sure_method, name, count) + self.caller(depth, name, (1, count))
-
-    def imported(self, depth):
-        """A Scope of what only an External names."""
-        self.opcode = EXTERNAL
-        name = self.fresh_name("table")
-        external = b"\x15" + self.declared_name(name, 0) + b"\6\0"
-        with self.at(self.opened, False):
-            scope = self.spelled(self.root_name(self.scope)) + self.terms(depth + 1, "table")
-        return external + self.packed(b"\x10", scope)

@@ -41,14 +41,19 @@ def table(chance, signature, content):
     return sealed(signature + bytes(4) + rest + content)
 
 
-def root(chance, revision, rsdt, xsdt):
-    length = chance.choice((36, 36, 40))
+def root(revision, rsdt, xsdt, more=b""):
+    """A root pointer with right checksums."""
     data = bytearray(ROOT + b"\0TEST  " + bytes([revision]) + rsdt.to_bytes(4, "little"))
     data[8] = -sum(data) % 256
     if revision >= 2:
-        data += length.to_bytes(4, "little") + xsdt.to_bytes(8, "little") + bytes(4) + chance.randbytes(length - 36)
+        data += (36 + len(more)).to_bytes(4, "little") + xsdt.to_bytes(8, "little") + bytes(4) + more
         data[32] = -sum(data) % 256
     return bytes(data)
+
+
+def any_root(chance, revision, rsdt, xsdt):
+    length = chance.choice((36, 36, 40))
+    return root(revision, rsdt, xsdt, chance.randbytes(length - 36) if revision >= 2 else b"")
 
 
 def table_list(chance, name, entries):
@@ -183,7 +188,7 @@ class SetMaker(Chancy):
         other = lambda: table(chance, chance.choice(SIGNATURES), chance.randbytes(chance.randrange(40)))
         facs = lambda length: FACS + length.to_bytes(4, "little") + chance.randbytes(length - 8)
         makers = {
-            "rsdp.dat": lambda: root(chance, chance.choice((0, 2)), chance.randrange(1 << 32), chance.randrange(1 << 64)),
+            "rsdp.dat": lambda: any_root(chance, chance.choice((0, 2)), *map(chance.randrange, (1 << 32, 1 << 64))),
             **{name: lambda name=name: self.stray_list(name) for name in LIST_FILES},
             "facp.dat": lambda: fadt(chance, chance.randrange(1 << 32)), "apic.dat": lambda: madt(chance),
             "facs.dat": lambda: facs(chance.choice((8, 9, 64))), "other.dat": other, "other2.dat": other,
@@ -226,7 +231,7 @@ class SetMaker(Chancy):
         places = {name: addresses["facp.dat" if self.happens(0.03) else name] for name in lists}
         xsdt, rsdt = places.get("xsdt.dat", 0), places.get("rsdt.dat", chance.choice((0, chance.randrange(1 << 32))))
         is_old = self.happens(0.04) or not xsdt and self.happens(0.6)
-        return root(chance, chance.randrange(2) if is_old else chance.choice((2, 2, 3)), rsdt, xsdt)
+        return any_root(chance, chance.randrange(2) if is_old else chance.choice((2, 2, 3)), rsdt, xsdt)
 
     def map_of(self, addresses):
         first, second, *_ = addresses

@@ -3,19 +3,15 @@
 import itertools
 from collections import namedtuple
 
-from made_code import Chancy, package_length, shortest
-from reading import Name
+from made_code import LEADS, MOST_SEGMENTS, Chancy, package_length, shortest
+from reading import ROWS, Name
 
-# What a term has in front of its names and behind them, where it has no package length, and where it has one.
-PLAIN = {
-    "Alias": (b"\x06", b""), "Name": (b"\x08", b"\0"), "External": (b"\x15", b"\x08"), "Mutex": (b"\x5B\x01", b"\0"),
-    "Unit": (b"", b"\x08"),
-}
-PACKED = {
-    "Scope": (b"\x10", b""), "Method": (b"\x14", b""), "Field": (b"\x5B\x81", b"\0"), "Device": (b"\x5B\x82", b""),
-    "Processor": (b"\x5B\x83", bytes(6)), "PowerResource": (b"\x5B\x84", bytes(3)),
-    "ThermalZone": (b"\x5B\x85", b""), "If": (b"\xA0", b"\1"), "Else": (b"\xA1", b""), "While": (b"\xA2", b"\1"),
-}
+# What a term has behind its names, and those with a package length
+BEHIND = {
+    "Name": b"\0", "External": b"\x08", "Mutex": b"\0", "Unit": b"\x08", "Field": b"\0", "Processor": bytes(6),
+    "PowerResource": bytes(3), "If": b"\1", "While": b"\1",
+}  # fmt: skip
+PACKED = {row.mnemonic for row in ROWS.values() if row.packed}
 COUNTED, BLOCKS = {"Method", "External"}, {"If", "Else", "While"}
 DEVICES = ["Device", "Processor", "PowerResource", "ThermalZone"]
 # How often each is made; a Device is now and then another of its like.
@@ -37,10 +33,9 @@ class Term(namedtuple("Term", "word names count inside", defaults=[(), 0, ()])):
         return head + (f" {{{text_of(self.inside)}}}" if self.word in PACKED and self.word != "Method" else "")
 
     def code(self):
-        opcode, behind = (PACKED | PLAIN)[self.word]
         count = bytes([self.count]) if self.word in COUNTED else b""
-        content = b"".join(map(shortest, self.names)) + behind + count + code_of(self.inside)
-        return opcode + (package_length(len(content), 1) if self.word in PACKED else b"") + content
+        content = b"".join(map(shortest, self.names)) + BEHIND.get(self.word, b"") + count + code_of(self.inside)
+        return LEADS.get(self.word, b"") + (package_length(len(content), 1) if self.word in PACKED else b"") + content
 
 
 def root_name(path):
@@ -61,14 +56,19 @@ class TermMaker(Chancy):
     def __init__(self, chance):
         self.chance, self.paths = chance, []
 
-    def tables(self):
-        """The terms of two tables, the second of which may be empty."""
+    def scenery(self, scope):
+        """Terms in a scope, each in a list of its own; half of the time those of a scene are among them."""
         self.paths = []
-        groups = self.groups(0, ())
+        groups = self.groups(0, scope)
         if self.happens(0.5):
             place = self.chance.randrange(len(groups) + 1)
             scene = self.chance.choice((self.chained, self.opened, self.missed))
             groups[place:place] = [[term] for term in scene()]
+        return groups
+
+    def tables(self):
+        """The terms of two tables, the second of which may be empty."""
+        groups = self.scenery(())
         cut = self.chance.choice([len(groups), self.chance.randrange(len(groups) + 1)])
         return [joined(groups[:cut]), joined(groups[cut:])]
 
@@ -118,7 +118,7 @@ class TermMaker(Chancy):
         if not self.paths or how < 0.1:
             return self.name(scope)
         path = self.chance.choice(self.paths)
-        return root_name(path) if how < 0.6 else Name(False, 0, [path[-1]])
+        return root_name(path) if how < 0.6 and len(path) <= MOST_SEGMENTS else Name(False, 0, [path[-1]])
 
     def name(self, scope):
         segs = [self.segment() for _ in range(1 if self.happens(0.65) else 2)]

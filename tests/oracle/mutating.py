@@ -7,16 +7,14 @@ import re
 from collections import namedtuple
 from dataclasses import dataclass
 
-from any_run import RunNamespace, RunReader
+from any_run import Namespace, RunReader
 from dumps import HEADER_LENGTH
 from folders import MAP_NAME
-from loading import load
-from made_code import LIKELY_BYTES, WIDEST, damaged, package_length
+from made_code import LEADS, LIKELY_BYTES, WIDEST, damaged, package_length
 from made_sets import BLOCKS, Trial, sealed
 from reading import EXTERNAL, METHOD, ROWS, Reader, Refused, is_name_lead
 
 SEGMENT = re.compile(rb"[A-Z_][A-Z0-9_]{3}")
-OPCODES = [bytes([opcode]) if opcode < 256 else opcode.to_bytes(2, "big") for opcode in ROWS]
 MOST_TERMS, LONGEST_TERM, MOST_CHANGES = 3000, 400, 4
 Span = namedtuple("Span", "start end")
 
@@ -65,30 +63,25 @@ class Surveying:
 
 
 @dataclass
-class Surveyor(Surveying, Reader):
-    """Of a table, or of a body."""
+class BodySurveyor(Surveying, Reader):
+    pass
 
 
 @dataclass
-class RunSurveyor(Surveying, RunReader):
-    """Of a table whose terms may run."""
+class TableSurveyor(Surveying, RunReader):
+    pass
 
 
 @functools.lru_cache(maxsize=32)
-def layouts_of(codes, any_run=False):
-    """The layouts of a tuple of tables in load order, with the bodies of their methods where all of them load; with code
-    outside methods, of the methods before a fault."""
-    layouts = [Layout() for _ in codes]
-    space = RunNamespace()
+def layouts_of(codes):
+    """The layouts of tables in load order, each up to its first fault, with the bodies of the methods there."""
+    layouts, space = [Layout() for _ in codes], Namespace()
     for table, (code, layout) in enumerate(zip(codes, layouts)):
-        how = {"space": space, "table": table} if any_run else {}
-        (RunSurveyor if any_run else Surveyor)(code, layout=layout, **how).survey()
-    with contextlib.suppress(Refused):
-        space = space if any_run else load(codes).space
+        TableSurveyor(code, layout=layout, space=space, table=table).survey()
     for method in space.methods:
         body = codes[method.table][method.start:method.end]
         arity = space.arity(method.path)
-        Surveyor(body, arity, method.path, layout=layouts[method.table], base=method.start).survey()
+        BodySurveyor(body, arity, method.path, layout=layouts[method.table], base=method.start).survey()
     return layouts
 
 
@@ -179,7 +172,8 @@ class Mutator:
     def change_opcode(self, code, layout):
         start, _ = self.span(layout)
         width = 2 if code[start:start + 1] == b"\x5b" else 1
-        return replaced(code, layout, Span(start, min(start + width, len(code))), self.chance.choice(OPCODES))
+        span = Span(start, min(start + width, len(code)))
+        return replaced(code, layout, span, self.chance.choice(list(LEADS.values())))
 
     def change_flags(self, code, layout):
         """Another byte behind the name of a Method or an External, in which the count of arguments stands."""
@@ -220,11 +214,10 @@ def is_block(data):
 
 
 class SetMutator:
-    """Changes one set after another, with terms of those that it learned to know. Where `any_run` is set, their code outside
-    methods is seen too."""
+    """Changes one set after another, with terms of those that it learned to know."""
 
-    def __init__(self, chance, any_run=False):
-        self.chance, self.any_run, self.terms = chance, any_run, []
+    def __init__(self, chance):
+        self.chance, self.terms = chance, []
         self.mutator = Mutator(chance, self.terms)
         more = lambda files, name: {**files, name: files[name] + chance.randbytes(chance.choice((1, 4, 40)))}
         without = lambda files, name: {kept: data for kept, data in files.items() if kept != name}
@@ -233,7 +226,7 @@ class SetMutator:
     def learn(self, files):
         """Keeps terms of a set to be put into others, in place of some of those kept."""
         _, codes = blocks_of(files)
-        for code, layout in zip(codes, layouts_of(codes, self.any_run)):
+        for code, layout in zip(codes, layouts_of(codes)):
             terms = layout.in_bodies * 3 + layout.terms
             short = [code[start:end] for start, end in terms if end - start <= LONGEST_TERM]
             for term in self.chance.sample(short, min(len(short), 100)):
@@ -248,7 +241,7 @@ class SetMutator:
         if not names or self.chance.random() < 0.08:
             return self.chance.choice(self.ways)(files, self.chance.choice(list(files))) if files else {}
         index = self.chance.randrange(len(names))
-        code = self.mutator.mutated(codes[index], layouts_of(codes, self.any_run)[index])
+        code = self.mutator.mutated(codes[index], layouts_of(codes)[index])
         return {**files, names[index]: self.summed(files[names[index]][:HEADER_LENGTH] + code)}
 
     def summed(self, data):
@@ -304,7 +297,7 @@ class MutatedMaker:
 
     def __init__(self, maker):
         self.maker, self.chance, self.known = maker, maker.chance, maker.known
-        self.mutator = SetMutator(self.chance, maker.any_run)
+        self.mutator = SetMutator(self.chance)
         for files in self.known:
             self.mutator.learn(files)
 

@@ -13,10 +13,10 @@ from collections import namedtuple
 from dataclasses import dataclass, field, fields
 
 from trying import asked
-import any_run
+from any_run import load
 from dumps import Bad, aml_of, dump_lines, order_of
 from folders import Unreadable, read_externals, read_folder
-from loading import load, path_text
+from loading import path_text
 from printing import block_lines, file_text, namespace_lines
 from reading import Refused
 
@@ -86,7 +86,7 @@ def run(dumps, options, given=()):
         return refused_dump(dumps, bad.dump, bad)
     codes = [aml_of(dumps[index].data) for index in order]
     try:
-        loaded = any_run.load(codes, given, options.unknown_zero) if options.any_run else load(codes, given)
+        loaded = load(codes, given, options.any_run, options.unknown_zero)
     except Refused as fault:
         return refused_dump(dumps, None if fault.table is None else order[fault.table], fault)
     bodies = loaded.bodies(options.unknown_zero)

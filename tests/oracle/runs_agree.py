@@ -13,8 +13,8 @@ import itertools
 import random
 
 from trying import asked, end
-from any_run import RunNamespace, agreed
-from loading import Namespace, path_text
+from any_run import Namespace, agreed
+from loading import PREDEFINED, own_count, path_text
 from reading import Name
 
 SEGMENTS = ["AAAA", "BBBB", "_OSI", "_SB_"]
@@ -43,7 +43,7 @@ def is_open_alias(kind):
 
 
 def space_of(declarations, externals):
-    space = RunNamespace()
+    space = Namespace()
     for path, kind, is_sure in declarations:
         space.declare_so((), Name(True, 0, list(path)), kind, is_sure)
     for path, count in externals:
@@ -51,37 +51,41 @@ def space_of(declarations, externals):
     return space
 
 
-def runs_of(declarations, externals):
-    """The namespaces of all runs: each keeps a declaration as one of some kinds, or leaves an unsure one out."""
+def runs_of(declarations):
+    """All runs, each with the kinds of its paths: it keeps a declaration as one of some kinds, or leaves an unsure one
+    out."""
     kept = []
     for _, kind, is_sure in declarations:
         aims = [("Alias", path) for path in PATHS] if is_open_alias(kind) else [kind[:2]]
         kept.append(aims if is_sure else [None, *aims])
     for kinds in itertools.product(*kept):
-        run = Namespace()
+        run = {}
         for (path, _, _), kind in zip(declarations, kinds):
             if kind:
-                run.kinds.setdefault(path, kind)
-        for path, count in externals:
-            run.add_external(path, count)
+                run.setdefault(path, kind)
         yield run
 
 
-def found_count(run, scope, name, local):
+def kind_at(run, path):
+    return run.get(path) or PREDEFINED.get(path)
+
+
+def found_count(run, candidates, local):
     """The count that a run has for a name which it finds, by what stands at an Alias' target; else None."""
-    path = run.find(scope, name, local)
-    if path is None or path not in local and run.kind(path) is None:
-        return None
-    if path in local:
-        return 0
-    kind = run.kind(path)
-    return None if kind[0] == "Alias" and run.kind(kind[1]) is None else run.count(path)
+    for path in candidates:
+        kind = kind_at(run, path)
+        if path in local:
+            return 0
+        if kind:
+            kind = kind_at(run, kind[1]) if kind[0] == "Alias" else kind
+            return own_count(kind) if kind else None
+    return None
 
 
 def holds(space, runs, scope, name, local):
     """Whether the promise and its converse hold of a name."""
     met = space.counts_met(scope, name, local)
-    counts = {found_count(run, scope, name, local) for run in runs} - {None}
+    counts = {found_count(run, name.candidates(scope), local) for run in runs} - {None}
     if met and agreed(met) is not None:
         return counts <= {space.arity(scope)(local, name)} == set(met)
     kinds = [kind for path in name.candidates(scope) for kind in space.kinds_of(path)]
@@ -90,7 +94,7 @@ def holds(space, runs, scope, name, local):
 
 def fails_of(declarations, externals):
     """The names of which the promise doesn't hold."""
-    space, runs = space_of(declarations, externals), list(runs_of(declarations, externals))
+    space, runs = space_of(declarations, externals), list(runs_of(declarations))
     for scope, name, local in itertools.product(SCOPES, NAMES, LOCALS):
         if not holds(space, runs, scope, name, local):
             yield f"{path_text(scope)}: {name}, with locals {local}, of {declarations}, {externals}"

@@ -23,6 +23,7 @@ from collections import namedtuple
 from trying import asked, built, end
 from compare import laid, run_program
 from loading import PREDEFINED, path_text
+from runs_agree import found_count, kind_at
 from made_code import package_length, shortest
 from made_sets import Trial, table
 from made_terms import BLOCKS, DEVICES, RARE_SEGMENTS, SEGMENTS, TermMaker
@@ -45,10 +46,6 @@ METHOD = re.compile(r"^  Method \((\\\S*), 0, NotSerialized, 0\) \{\n((?:    .*\
 
 
 # A run has the paths that it declared, with their kinds: that of an Alias has the path at which it aims.
-def kind_at(run, path):
-    return run.get(path) or PREDEFINED.get(path)
-
-
 def found(run, scope, name):
     """The first candidate of a name at which a run has something."""
     return next((path for path in name.candidates(scope) if kind_at(run, path)), None)
@@ -92,18 +89,6 @@ def kind_of(run, scope, term):
         kind = None if source is None else kind_at(run, source)
         return kind and ("Alias", kind[1] if kind[0] == "Alias" else source)
     return None if term.word == "External" else (term.word,)
-
-
-def count_in(run, question):
-    """What a name takes in a run, if this finds something for it."""
-    for path in question.candidates():
-        kind = kind_at(run, path)
-        if path == question.local:
-            return 0
-        if kind:
-            kind = kind_at(run, kind[1]) if kind[0] == "Alias" else kind
-            return kind[1] if kind[0] == "Method" else 0
-    return None
 
 
 class Question(namedtuple("Question", "method name local")):
@@ -176,7 +161,7 @@ class Told:
     def compared(self, run, questions):
         """Of each count in a run None where it is told so, else what is wrong; and what is wrong with the rows."""
         for question in questions:
-            told, count = self.counts[question.method], count_in(run, question)
+            told, count = self.counts[question.method], found_count(run, question.candidates(), {question.local})
             if told is not None and count is not None:
                 yield None if told == count else f"{question} takes {told}, but {count}"
         yield from (f"{path_text(path)} is in no row, but" for path in run if path not in self.rows)

@@ -11,9 +11,10 @@ import threading
 import time
 from collections import namedtuple
 
-# It is imported first, so that the others leave no bytecode.
+# It is imported first, so that the others are found, and leave no bytecode.
 sys.dont_write_bytecode = True
 TOP = pathlib.Path(__file__).resolve().parents[2]
+sys.path[1:1] = [str(TOP / place) for place in ("tests/oracle", "tests", "examples", "bench")]
 PROGRAM = TOP / "out/acpidis"
 # What a run took: seconds, processor seconds, peak memory in bytes, its status, and the page faults that needed no disk
 Answer = namedtuple("Answer", "seconds processor peak status faults")
