@@ -542,11 +542,11 @@ impl Sink for Ears {
     ghost grew = { λ a b ps. Caught a b ps };
 
     #[inline(always)]
-    fn tell(&mut self, piece: Piece<'_>) -> Result<(), NoMemory> {
-        if is_silent(&piece) {
+    fn tell(&mut self, piece: &Piece<'_>) -> Result<(), NoMemory> {
+        if is_silent(piece) {
             return Ok(());
         }
-        self.take(&piece)
+        self.take(piece)
     }
 
     ghost nothing = { λ s. caught_still s };

@@ -93,11 +93,11 @@ impl Sink for Hearer {
     ghost grew = { λ a b ps. Grew (a.hearing, a.fault) (b.hearing, b.fault) ps };
 
     #[inline(always)]
-    fn tell(&mut self, piece: Piece<'_>) -> Result<(), NoMemory> {
-        if is_silent(&piece) {
+    fn tell(&mut self, piece: &Piece<'_>) -> Result<(), NoMemory> {
+        if is_silent(piece) {
             return Ok(());
         }
-        self.take(&piece)
+        self.take(piece)
     }
 
     ghost nothing = { λ s. says_still (s.hearing, s.fault) };
