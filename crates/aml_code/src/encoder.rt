@@ -144,18 +144,18 @@ impl<'c> Encoder<'c> {
 
     /// A piece that has bytes, or ends an opcode. Of the reader's frame it takes nothing.
     #[inline(never)]
-    fn take(&mut self, piece: Piece<'_>) -> Result<(), NoMemory>
-        ensures { OnOk result (Grew self.old self.new (piece_view piece.entry ∷ [])) }
+    fn take(&mut self, piece: &Piece<'_>) -> Result<(), NoMemory>
+        ensures { OnOk result (Grew self.old self.new (piece_view piece.now ∷ [])) }
     {
-        match piece {
+        match *piece {
             Piece::Opcode(row, width) => {
                 begin(row.opcode, width, &mut self.out, &mut self.opens)?;
             }
             Piece::Empty | Piece::Bytes(_) | Piece::Body(_, _) | Piece::EndOfList(_, _) => {
-                encode_piece(self.code, piece, &mut self.out)?;
+                encode_piece(self.code, *piece, &mut self.out)?;
                 end(&mut self.out, &mut self.opens);
             }
-            _ => encode_piece(self.code, piece, &mut self.out)?,
+            _ => encode_piece(self.code, *piece, &mut self.out)?,
         }
         Ok(())
     }
@@ -167,8 +167,8 @@ impl Sink for Encoder<'_> {
     ghost grew = { Grew };
 
     #[inline(always)]
-    fn tell(&mut self, piece: Piece<'_>) -> Result<(), NoMemory> {
-        if is_silent(&piece) {
+    fn tell(&mut self, piece: &Piece<'_>) -> Result<(), NoMemory> {
+        if is_silent(piece) {
             return Ok(());
         }
         self.take(piece)

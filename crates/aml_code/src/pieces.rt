@@ -66,8 +66,8 @@ pub trait Sink {
     ghost grew: { Self → Self → List Told → Type 0 };
 
     /// Takes one more. Where it refuses one, nothing is promised of what was told.
-    fn tell(&mut self, piece: Piece<'_>) -> Result<(), NoMemory>
-        ensures { OnOk result (grew self.old self.new (piece_view piece.entry ∷ [])) };
+    fn tell(&mut self, piece: &Piece<'_>) -> Result<(), NoMemory>
+        ensures { OnOk result (grew self.old self.new (piece_view piece.now ∷ [])) };
 
     /// Nothing was told meanwhile.
     ghost nothing: { (s : Self) → grew s s [] };
@@ -91,7 +91,7 @@ impl<A: Sink, B: Sink> Sink for Both<'_, A, B> {
         × ((b.second.ghost_name ≡ a.second.ghost_name) × B.grew a.second.now b.second.now ps) };
 
     #[inline(always)]
-    fn tell(&mut self, piece: Piece<'_>) -> Result<(), NoMemory> {
+    fn tell(&mut self, piece: &Piece<'_>) -> Result<(), NoMemory> {
         self.first.tell(piece)?;
         self.second.tell(piece)
     }

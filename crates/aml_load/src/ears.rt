@@ -313,13 +313,13 @@ impl Ears {
     }
 
     /// Behind a part.
-    fn pass(&mut self, noted: &Noted<'_>) -> Result<(), NoMemory>
-        ensures { (k : Known) → OnOk result (Goes k self.old self.new (behind_part (noted_view noted.now))) }
+    fn pass(&mut self, noted: Noted<'_>) -> Result<(), NoMemory>
+        ensures { (k : Known) → OnOk result (Goes k self.old self.new (behind_part (noted_view noted.entry))) }
     {
         let Some(top) = self.around.last_mut() else {
             return Ok(());
         };
-        note_in(&mut self.head, top, noted)?;
+        note_in(&mut self.head, top, &noted)?;
         *top = top.passed();
         Ok(())
     }
@@ -336,7 +336,7 @@ impl Ears {
         ensures { (k : Known) → OnOk result (Goes k self.old self.new closed) }
     {
         self.leave();
-        self.pass(&Noted::Other)?;
+        self.pass(Noted::Other)?;
         Ok(())
     }
 
@@ -476,20 +476,20 @@ impl Ears {
 
     /// A piece, behind which no term does anything.
     #[inline(always)]
-    pub fn catch(&mut self, piece: Piece<'_>) -> Result<(), NoMemory>
+    pub fn catch(&mut self, piece: &Piece<'_>) -> Result<(), NoMemory>
         ensures { (k : Known) → AreNumbered k self.old → OnOk result
-            (Goes k self.old self.new (catch (piece_view piece.entry))) }
+            (Goes k self.old self.new (catch (piece_view piece.now))) }
     {
-        match piece {
+        match *piece {
             Piece::Name(name, count) => self.catch_name(name, count),
             Piece::Opcode(row, _width) => self.catch_opcode(row),
-            Piece::Label(name) => self.pass(&Noted::Label(name)),
-            Piece::Byte(value) => self.pass(&Noted::Byte(value)),
-            Piece::Absent => self.pass(&Noted::Other),
-            Piece::Word(_) => self.pass(&Noted::Other),
-            Piece::Dword(_) => self.pass(&Noted::Other),
-            Piece::Qword(_) => self.pass(&Noted::Other),
-            Piece::Text(_) => self.pass(&Noted::Other),
+            Piece::Label(name) => self.pass(Noted::Label(name)),
+            Piece::Byte(value) => self.pass(Noted::Byte(value)),
+            Piece::Absent => self.pass(Noted::Other),
+            Piece::Word(_) => self.pass(Noted::Other),
+            Piece::Dword(_) => self.pass(Noted::Other),
+            Piece::Qword(_) => self.pass(Noted::Other),
+            Piece::Text(_) => self.pass(Noted::Other),
             Piece::EndOfCall(_) => self.close(),
             Piece::Empty => self.close(),
             Piece::Bytes(_) => self.close(),
@@ -510,9 +510,9 @@ impl Ears {
 impl Ears {
     /// The same. Of the reader's frame it takes nothing.
     #[inline(never)]
-    fn take(&mut self, piece: Piece<'_>) -> Result<(), NoMemory>
+    fn take(&mut self, piece: &Piece<'_>) -> Result<(), NoMemory>
         ensures { (k : Known) → AreNumbered k self.old → OnOk result
-            (Goes k self.old self.new (catch (piece_view piece.entry))) }
+            (Goes k self.old self.new (catch (piece_view piece.now))) }
     {
         self.catch(piece)
     }
@@ -542,8 +542,8 @@ impl Sink for Ears {
     ghost grew = { λ a b ps. Caught a b ps };
 
     #[inline(always)]
-    fn tell(&mut self, piece: Piece<'_>) -> Result<(), NoMemory> {
-        if is_silent(&piece) {
+    fn tell(&mut self, piece: &Piece<'_>) -> Result<(), NoMemory> {
+        if is_silent(piece) {
             return Ok(());
         }
         self.take(piece)

@@ -65,9 +65,9 @@ impl Hearer {
 impl Hearer {
     /// A piece that may declare. Of the reader's frame it takes nothing.
     #[inline(never)]
-    fn take(&mut self, piece: Piece<'_>) -> Result<(), NoMemory>
+    fn take(&mut self, piece: &Piece<'_>) -> Result<(), NoMemory>
         ensures { OnOk result (Grew (self.old.hearing, self.old.fault) (self.new.hearing, self.new.fault)
-            (piece_view piece.entry ∷ [])) }
+            (piece_view piece.now ∷ [])) }
     {
         if self.fault.is_some() {
             return Ok(());
@@ -93,8 +93,8 @@ impl Sink for Hearer {
     ghost grew = { λ a b ps. Grew (a.hearing, a.fault) (b.hearing, b.fault) ps };
 
     #[inline(always)]
-    fn tell(&mut self, piece: Piece<'_>) -> Result<(), NoMemory> {
-        if is_silent(&piece) {
+    fn tell(&mut self, piece: &Piece<'_>) -> Result<(), NoMemory> {
+        if is_silent(piece) {
             return Ok(());
         }
         self.take(piece)

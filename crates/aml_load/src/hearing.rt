@@ -103,21 +103,21 @@ impl Hearing {
 
     /// A piece behind which no term does anything.
     #[inline(always)]
-    fn catch(&mut self, piece: Piece<'_>) -> Result<(), NoMemory>
+    fn catch(&mut self, piece: &Piece<'_>) -> Result<(), NoMemory>
         requires { AreNumbered self.old.progress.space self.old.ears }
-        ensures { OnOk result (Hears self.old self.new (λ x. Ok (catch (piece_view piece.entry) x))) }
+        ensures { OnOk result (Hears self.old self.new (λ x. Ok (catch (piece_view piece.now) x))) }
     {
         self.ears.catch(piece)?;
         Ok(())
     }
 
     /// A piece.
-    pub fn hear(&mut self, piece: Piece<'_>) -> Result<(), LoadFault>
+    pub fn hear(&mut self, piece: &Piece<'_>) -> Result<(), LoadFault>
         requires { AreNumbered self.old.progress.space self.old.ears }
-        ensures hears { OnOk result (Hears self.old self.new (hear true (piece_view piece.entry))) }
-        ensures stops { IfErr result (StopsBy self.old (hear true (piece_view piece.entry))) }
+        ensures hears { OnOk result (Hears self.old self.new (hear true (piece_view piece.now))) }
+        ensures stops { IfErr result (StopsBy self.old (hear true (piece_view piece.now))) }
     {
-        match piece {
+        match *piece {
             Piece::Empty | Piece::Bytes(_) => self.close((0, 0)),
             Piece::Body(start, len) => self.close((start, len)),
             Piece::List(kind) => self.hear_list(kind),

@@ -58,7 +58,7 @@ impl<S: Sink> Opening<'_, S> {
     {
         if let Some((start, len)) = self.held {
             self.held = None;
-            self.sink.tell(Piece::Body(start, len))?;
+            self.sink.tell(&Piece::Body(start, len))?;
         }
         Ok(())
     }
@@ -70,9 +70,9 @@ impl<S: Sink> Sink for Opening<'_, S> {
     ghost grew = { λ a b ps. HoldsBack S.grew a b ps };
 
     #[inline(always)]
-    fn tell(&mut self, piece: Piece<'_>) -> Result<(), NoMemory> {
+    fn tell(&mut self, piece: &Piece<'_>) -> Result<(), NoMemory> {
         self.let_go()?;
-        self.held = span_of(&piece);
+        self.held = span_of(piece);
         if self.held.is_some() {
             return Ok(());
         }

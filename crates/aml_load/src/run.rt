@@ -155,9 +155,9 @@ impl Progress {
                     at: start,
                     end: start + len,
                 };
-                sink.tell(Piece::List(TailKind::Terms))?;
+                sink.tell(&Piece::List(TailKind::Terms))?;
                 self.tell_terms(&front.inner, inside, code, sink)?;
-                sink.tell(Piece::EndOfList(TailKind::Terms, rest.level))?;
+                sink.tell(&Piece::EndOfList(TailKind::Terms, rest.level))?;
                 Ok(())
             }
         }
@@ -181,10 +181,10 @@ impl Progress {
         ensures fails { IfErr result (FailsTerm self.old site.now rest code.now) }
         ensures stays { OnOk result (Stays self.old self.new) }
     {
-        sink.tell(Piece::Line(rest.level))?;
+        sink.tell(&Piece::Line(rest.level))?;
         let front = self.tell_head(site, rest, code, sink)?;
         self.tell_inside(&front, rest, code, sink)?;
-        sink.tell(Piece::EndOfLine)?;
+        sink.tell(&Piece::EndOfLine)?;
         Ok(front.behind)
     }
 

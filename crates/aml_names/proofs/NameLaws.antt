@@ -284,6 +284,15 @@ name_again end n rest is =
     ap (name_at end) text ∙ behind_prefixes n.root n.ups end (form ++ (segs ++ rest)) is.prefix bare.0 bare.1
     ∙ path_again n.root n.ups end n.form n.segs rest is.form is.segments
 
+-- bytes that begin with a segment begin with the name that this is alone
+pub segment_names : (end : ℕ) (bytes : List ℕ) (s : Seg) (rest : List ℕ) → segment_at end bytes ≡ Ok (s, rest)
+    → name_at end bytes ≡ Ok (record { root = false; ups = 0; form = One; segs = s ∷ [] }, rest)
+segment_names end bytes s rest e =
+    let read : (bytes ≡ s.0 ++ rest) × IsNameSeg s.0 = subst (Sound end bytes (IsSegment bytes)) e (segment_sound end bytes) in
+    let name : Name = record { root = false; ups = 0; form = One; segs = s ∷ [] } in
+    let is : IsName name = record { prefix = λ _. refl; form = refl; segments = (read.1, tt) } in
+    ap (name_at end) (read.0 ∙ ap (λ (t : List ℕ). t ++ rest) (sym (append_nil s.0))) ∙ name_again end name rest is
+
 -- ---- the first byte of a name
 
 -- The first byte: one that can begin a name in any position, or 00, which is then the whole of a bare NullName.

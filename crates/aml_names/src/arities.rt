@@ -1,5 +1,5 @@
 //! How many arguments a name takes, and what is kept of the names that terms declare.
-ghost use Rattle.std.specs.Prelude.{◌≡◌, ℕ, List, Option, IfOk, OnOk};
+ghost use Rattle.std.specs.Prelude.{◌≡◌, ℕ, List, Option, None, false, IfOk, OnOk};
 ghost use Rattle.std.specs.FinSet as set;
 ghost use Rattle.aml_names.specs.Branches.{with_declared_name};
 ghost use Rattle.aml_names.specs.Paths.{PathSet};
@@ -39,6 +39,13 @@ pub trait Names {
 
     /// The paths that they stand for.
     ghost paths: { Self → Self.Locals → PathSet };
+
+    /// Whether declared names are kept. Where they aren't, no reader reads one again to have it declared.
+    fn keeps(&self) -> bool
+        ensures { result ≡ false → scope self.now ≡ None }
+    {
+        true
+    }
 
     /// No path.
     fn no_locals(&self, alloc: Global) -> Self::Locals

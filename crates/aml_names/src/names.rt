@@ -1,11 +1,10 @@
 //! Names as they are written.
 
-ghost use Rattle.std.specs.Prelude.{◌≡◌, ◌∷◌, [], false, IfOk};
+ghost use Rattle.std.specs.Prelude.{◌≡◌, ◌∷◌, [], false};
 ghost use Rattle.aml_names.specs.declared.names.NameForm.TheVariants.{One};
 ghost use Rattle.aml_names.specs.NameReading.{has_segment as segmented};
 ghost use Rattle.aml_names.specs.Searching.{is_single as single};
 
-use crate::faults::NoMemory;
 use crate::segments::{Seg, Segs};
 use std::alloc::Global;
 
@@ -36,15 +35,15 @@ pub struct Name {
 
 impl Name {
     /// A segment without a prefix.
-    pub fn plain(alloc: Global, seg: Seg) -> Result<Name, NoMemory>
-        ensures { IfOk result (λ name. name ≡ record { root = false; ups = 0; form = One; segs = seg ∷ [] }) }
+    pub fn plain(alloc: Global, seg: Seg) -> Name
+        ensures { result ≡ record { root = false; ups = 0; form = One; segs = seg ∷ [] } }
     {
-        Ok(Name {
+        Name {
             root: false,
             form: NameForm::One,
             ups: 0,
-            segs: Segs::of(alloc, &[seg])?,
-        })
+            segs: Segs::one(alloc, seg),
+        }
     }
 
     /// Whether the name has at least one segment.

@@ -1,5 +1,5 @@
 //! Reading names.
-ghost use Rattle.std.specs.Prelude.{◌≡◌, ◌<◌, ◌^◌, ◌⊎◌, length, drop, IfOk, IfErr};
+ghost use Rattle.std.specs.Prelude.{◌≡◌, ◌<◌, ◌^◌, ◌⊎◌, ℕ, Ok, length, drop, IfOk, IfErr, IfSome};
 ghost use Rattle.aml_names.specs.Names.{is_lead_char as leads, is_name_char as follows, is_name_lead as begins_name};
 ghost use Rattle.aml_names.specs.Names.{IsName, spelling};
 ghost use Rattle.aml_names.specs.declared.names.Name.{Name};
@@ -94,17 +94,28 @@ fn count_of(end: u32, bytes: &[u8]) -> Result<(u8, &[u8]), CodeFault>
 ///
 /// `end` is the offset in the code at which the bytes end. `BadName` at the first character that can't stand in its
 /// place, `Truncated` at the end where the bytes are fewer.
-#[tactic(auto, unfolding(crate::specs::NameReading::segment_at))]
 #[inline(always)]
 pub fn segment_of(end: u32, bytes: &[u8]) -> Result<(Seg, &[u8]), CodeFault>
     ensures { Gives (λ x. (x.0, x.1.now)) result (segment_at end bytes.now) }
 {
+    match whole_segment_of(bytes) {
+        Some(found) => Ok(found),
+        None => chars_of(end, bytes),
+    }
+}
+
+/// The NameSeg with which the bytes begin, if they do, and what is left.
+#[tactic(auto, unfolding(crate::specs::NameReading::segment_at))]
+#[inline(always)]
+fn whole_segment_of(bytes: &[u8]) -> Option<(Seg, &[u8])>
+    ensures { IfSome result (λ x. (end : ℕ) → segment_at end bytes.now ≡ Ok (x.0, x.1.now)) }
+{
     match bytes {
         [a, b, c, d, rest @ ..]
             if is_lead_char(*a) && is_name_char(*b) && is_name_char(*c) && is_name_char(*d) => {
-            Ok((Seg([*a, *b, *c, *d]), rest))
+            Some((Seg([*a, *b, *c, *d]), rest))
         }
-        _ => chars_of(end, bytes),
+        _ => None,
     }
 }
 
@@ -207,9 +218,20 @@ fn parents_of(bytes: &[u8]) -> usize
 ///
 /// `Truncated` at the span's end where a byte is wanted, `BadName` at a byte that can't stand in its place, whichever
 /// comes first. `NoMemory` also for more parent prefixes than a `u32` counts.
-#[tactic(auto, unfolding(crate::specs::NameReading::name_at), using(crate::proofs::NameLoops::parents_fit, crate::proofs::NameLoops::rooted_some))]
 pub fn name_of(alloc: Global, end: u32, bytes: &[u8]) -> Result<(Name, &[u8]), CodeFault>
     ensures exact { Gives (λ x. (x.0, x.1.now)) result (name_at end bytes.now) }
+{
+    match whole_segment_of(bytes) {
+        Some((seg, rest)) => Ok((Name::plain(alloc, seg), rest)),
+        None => name_with_prefix(alloc, end, bytes),
+    }
+}
+
+/// The same, where most often a prefix stands in front.
+#[tactic(auto, unfolding(crate::specs::NameReading::name_at), using(crate::proofs::NameLoops::parents_fit, crate::proofs::NameLoops::rooted_some))]
+#[inline(never)]
+fn name_with_prefix(alloc: Global, end: u32, bytes: &[u8]) -> Result<(Name, &[u8]), CodeFault>
+    ensures { Gives (λ x. (x.0, x.1.now)) result (name_at end bytes.now) }
 {
     if is_rooted(bytes) {
         return path_of(alloc, true, 0, end, &bytes[1..]);

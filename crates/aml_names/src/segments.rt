@@ -94,6 +94,15 @@ impl Segs {
         }
     }
 
+    /// This segment alone, which needs no allocation.
+    pub(crate) fn one(alloc: Global, seg: Seg) -> Segs
+        ensures { result ≡ seg ∷ [] }
+    {
+        let mut segs = SmallVec::new(alloc);
+        segs.push_reserved(seg);
+        Segs { segs }
+    }
+
     /// These segments.
     pub fn of(alloc: Global, segs: &[Seg]) -> Result<Segs, AllocError>
         ensures { IfOk result (λ all. all ≡ segs.now) }

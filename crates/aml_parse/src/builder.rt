@@ -293,10 +293,10 @@ fn bytes_of(alloc: Global, bytes: &[u8]) -> Result<Bytes, NoMemory>
 impl Builder {
     /// A piece that builds something. Of the reader's frame it takes nothing.
     #[inline(never)]
-    fn take(&mut self, piece: Piece<'_>) -> Result<(), NoMemory>
-        ensures { OnOk result (Grew self.old self.new (piece_view piece.entry ∷ [])) }
+    fn take(&mut self, piece: &Piece<'_>) -> Result<(), NoMemory>
+        ensures { OnOk result (Grew self.old self.new (piece_view piece.now ∷ [])) }
     {
-        match piece {
+        match *piece {
             Piece::Absent => self.add(Node::Nothing),
             Piece::Name(name, count) => self.begin_call(name, count),
             Piece::EndOfCall(_) => self.end_call(),
@@ -343,8 +343,8 @@ impl Sink for Builder {
     ghost grew = { Grew };
 
     #[inline(always)]
-    fn tell(&mut self, piece: Piece<'_>) -> Result<(), NoMemory> {
-        if is_silent(&piece) {
+    fn tell(&mut self, piece: &Piece<'_>) -> Result<(), NoMemory> {
+        if is_silent(piece) {
             return Ok(());
         }
         self.take(piece)

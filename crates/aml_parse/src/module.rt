@@ -38,6 +38,10 @@ impl Names for NoArguments {
 
     ghost paths = { λ _ _. set.empty };
 
+    fn keeps(&self) -> bool {
+        false
+    }
+
     fn no_locals(&self, _alloc: Global) -> Nothing {
         Nothing
     }

@@ -87,6 +87,9 @@ impl<'a, N: Names> Parser<'a, N> {
             (option_to_list (label_at end label.entry))) }
         ensures fits { N.fits self.now.names.now locals.new }
     {
+        if !self.names.keeps() {
+            return Ok(());
+        }
         match label_of(self.alloc, end, label)? {
             None => Ok(()),
             Some(name) => self.names.declare(self.alloc, locals, &name),
@@ -113,7 +116,7 @@ impl<'a, N: Names> Parser<'a, N> {
             (N.scope self.now.names.now) (N.paths self.now.names.now locals.old) (plain_name seg ∷ [])) }
         ensures fits { N.fits self.now.names.now locals.new }
     {
-        let name = Name::plain(self.alloc, seg)?;
+        let name = Name::plain(self.alloc, seg);
         self.names.declare(self.alloc, locals, &name)
     }
 }

@@ -30,7 +30,7 @@ pub fn tell_byte<'b, S: Sink>(
     ensures fails { IfErr result (λ e. Fails e (held byte (little_at 1 end bytes.now))) }
 {
     let (value, rest) = one_of(end, bytes)?;
-    sink.tell(Piece::Byte(value))?;
+    sink.tell(&Piece::Byte(value))?;
     Ok(rest)
 }
 
@@ -50,7 +50,7 @@ pub fn tell_count<'b, S: Sink>(
             at: offset_of(end, bytes),
         });
     }
-    sink.tell(Piece::Byte(value as u8))?;
+    sink.tell(&Piece::Byte(value as u8))?;
     Ok(rest)
 }
 
@@ -65,7 +65,7 @@ pub fn tell_word<'b, S: Sink>(
     ensures fails { IfErr result (λ e. Fails e (held word (little_at 2 end bytes.now))) }
 {
     let (value, rest) = little_of(2, end, bytes)?;
-    sink.tell(Piece::Word(value as u16))?;
+    sink.tell(&Piece::Word(value as u16))?;
     Ok(rest)
 }
 
@@ -80,7 +80,7 @@ pub fn tell_dword<'b, S: Sink>(
     ensures fails { IfErr result (λ e. Fails e (held dword (little_at 4 end bytes.now))) }
 {
     let (value, rest) = little_of(4, end, bytes)?;
-    sink.tell(Piece::Dword(value as u32))?;
+    sink.tell(&Piece::Dword(value as u32))?;
     Ok(rest)
 }
 
@@ -95,7 +95,7 @@ pub fn tell_qword<'b, S: Sink>(
     ensures fails { IfErr result (λ e. Fails e (held qword (little_at 8 end bytes.now))) }
 {
     let (value, rest) = little_of(8, end, bytes)?;
-    sink.tell(Piece::Qword(value))?;
+    sink.tell(&Piece::Qword(value))?;
     Ok(rest)
 }
 
@@ -110,7 +110,7 @@ pub fn tell_text<'b, S: Sink>(
     ensures fails { IfErr result (λ e. Fails e (text_part end bytes.now)) }
 {
     let (text, rest) = text_of(end, bytes)?;
-    sink.tell(Piece::Text(text))?;
+    sink.tell(&Piece::Text(text))?;
     Ok(rest)
 }
 
@@ -126,7 +126,7 @@ pub fn tell_any_name<'b, S: Sink>(
     ensures fails { IfErr result (λ e. Fails e (held label (name_at end bytes.now))) }
 {
     let (name, rest) = name_of(alloc, end, bytes)?;
-    sink.tell(Piece::Label(&name))?;
+    sink.tell(&Piece::Label(&name))?;
     Ok(rest)
 }
 
@@ -142,7 +142,7 @@ pub fn tell_name<'b, S: Sink>(
     ensures fails { IfErr result (λ e. Fails e (held label (segmented_at end bytes.now))) }
 {
     let (name, rest) = segmented_of(alloc, end, bytes)?;
-    sink.tell(Piece::Label(&name))?;
+    sink.tell(&Piece::Label(&name))?;
     Ok(rest)
 }
 

@@ -33,9 +33,9 @@ fn tell_bare<S: Sink>(row: &OpRow, sink: &mut S) -> Result<(), NoMemory>
     ensures { OnOk result ((level : ℕ) →
         S.grew sink.old sink.new (pieces level (op row.now.opcode None no_parts empty))) }
 {
-    sink.tell(Piece::Opcode(row, None))?;
-    sink.tell(Piece::EndOfParts(row))?;
-    sink.tell(Piece::Empty)?;
+    sink.tell(&Piece::Opcode(row, None))?;
+    sink.tell(&Piece::EndOfParts(row))?;
+    sink.tell(&Piece::Empty)?;
     Ok(())
 }
 
@@ -47,10 +47,10 @@ fn tell_with_byte<S: Sink>(row: &OpRow, value: u8, sink: &mut S) -> Result<(), N
     ensures { OnOk result ((level : ℕ) →
         S.grew sink.old sink.new (pieces level (op row.now.opcode None (part_more (byte value) no_parts) empty))) }
 {
-    sink.tell(Piece::Opcode(row, None))?;
-    sink.tell(Piece::Byte(value))?;
-    sink.tell(Piece::EndOfParts(row))?;
-    sink.tell(Piece::Empty)?;
+    sink.tell(&Piece::Opcode(row, None))?;
+    sink.tell(&Piece::Byte(value))?;
+    sink.tell(&Piece::EndOfParts(row))?;
+    sink.tell(&Piece::Empty)?;
     Ok(())
 }
 
@@ -69,7 +69,7 @@ pub fn tell_short<'b, S: Sink>(
 {
     match bytes {
         [lead, rest @ ..] if here.levels > 0 && is_absent_target(here.position, *lead) => {
-            sink.tell(Piece::Absent)?;
+            sink.tell(&Piece::Absent)?;
             Ok(Some(rest))
         }
         // A constant, a Local or an Arg.

@@ -130,7 +130,7 @@ fn tell_separator<S: Sink>(sink: &mut S, is_first: bool) -> Result<(), NoMemory>
     if is_first {
         return Ok(());
     }
-    sink.tell(Piece::Next)
+    sink.tell(&Piece::Next)
 }
 
 #[tactic(auto, unfolding(crate::specs::Reading::call_at, crate::specs::Reading::link_at, crate::specs::Reading::plain_at))]
@@ -177,7 +177,7 @@ impl<'a, N: Names> Parser<'a, N> {
                 self.tell_call(inside, end, locals, sink, bytes)
             }
             Lead::Nothing => {
-                sink.tell(Piece::Absent)?;
+                sink.tell(&Piece::Absent)?;
                 Ok((false, rest))
             }
             Lead::Opcode => {
@@ -216,7 +216,7 @@ impl<'a, N: Names> Parser<'a, N> {
     {
         let (name, rest) = name_of(self.alloc, end, bytes)?;
         let count = self.count(here.position, offset_of(end, bytes), locals, &name)?;
-        sink.tell(Piece::Name(&name, count))?;
+        sink.tell(&Piece::Name(&name, count))?;
         let behind = self.tell_arguments(
             count,
             here.at(Position::Argument),
@@ -225,7 +225,7 @@ impl<'a, N: Names> Parser<'a, N> {
             sink,
             rest,
         )?;
-        sink.tell(Piece::EndOfCall(count))?;
+        sink.tell(&Piece::EndOfCall(count))?;
         Ok((false, behind))
     }
 
@@ -313,10 +313,10 @@ impl<'a, N: Names> Parser<'a, N> {
             (N.paths self.now.names.now locals.old) bytes.now)) }
         ensures fits { N.fits self.now.names.now locals.new }
     {
-        sink.tell(Piece::Opcode(row, None))?;
+        sink.tell(&Piece::Opcode(row, None))?;
         let (label, rest) = self.tell_parts(row.parts, here, end, locals, sink, bytes)?;
-        sink.tell(Piece::EndOfParts(row))?;
-        sink.tell(Piece::Empty)?;
+        sink.tell(&Piece::EndOfParts(row))?;
+        sink.tell(&Piece::Empty)?;
         self.declare(row.role, end, label, &[], locals)?;
         Ok((row.opcode == IF, rest))
     }
@@ -349,9 +349,9 @@ impl<'a, N: Names> Parser<'a, N> {
         let row = found.row;
         let (width, inner, inside, behind) = package_of(end, bytes)?;
         guard_of(is_guard(here.position, row.place), found.at, inner, inside)?;
-        sink.tell(Piece::Opcode(row, Some(width)))?;
+        sink.tell(&Piece::Opcode(row, Some(width)))?;
         let (label, rest) = self.tell_parts(row.parts, here, inner, locals, sink, inside)?;
-        sink.tell(Piece::EndOfParts(row))?;
+        sink.tell(&Piece::EndOfParts(row))?;
         let units = self.tell_tail(found, here, inner, locals, sink, rest)?;
         self.declare(row.role, inner, label, units.as_slice(), locals)?;
         Ok((row.opcode == IF, behind))
@@ -508,12 +508,12 @@ impl<'a, N: Names> Parser<'a, N> {
         let kind = tail_in(here.position, found.tail);
         match kind {
             TailKind::Bytes => {
-                sink.tell(Piece::Bytes(inside))?;
+                sink.tell(&Piece::Bytes(inside))?;
                 Ok(Vec::new(self.alloc))
             }
             TailKind::Body => {
                 let start = offset_of(end, inside);
-                sink.tell(Piece::Body(start, end - start))?;
+                sink.tell(&Piece::Body(start, end - start))?;
                 Ok(Vec::new(self.alloc))
             }
             TailKind::Terms => {
@@ -521,21 +521,21 @@ impl<'a, N: Names> Parser<'a, N> {
                     position: terms_in(here.position, found.row.place),
                     ..here.deeper()
                 };
-                sink.tell(Piece::List(kind))?;
+                sink.tell(&Piece::List(kind))?;
                 self.tell_lines(inner, end, locals, sink, inside)?;
-                sink.tell(Piece::EndOfList(kind, here.level))?;
+                sink.tell(&Piece::EndOfList(kind, here.level))?;
                 Ok(Vec::new(self.alloc))
             }
             TailKind::Elements => {
-                sink.tell(Piece::List(kind))?;
+                sink.tell(&Piece::List(kind))?;
                 self.tell_elements(here.at(Position::Data), end, locals, sink, inside)?;
-                sink.tell(Piece::EndOfList(kind, here.level))?;
+                sink.tell(&Piece::EndOfList(kind, here.level))?;
                 Ok(Vec::new(self.alloc))
             }
             TailKind::Fields => {
-                sink.tell(Piece::List(kind))?;
+                sink.tell(&Piece::List(kind))?;
                 let units = self.tell_fields(here.deeper(), end, locals, sink, inside)?;
-                sink.tell(Piece::EndOfList(kind, here.level))?;
+                sink.tell(&Piece::EndOfList(kind, here.level))?;
                 Ok(units)
             }
         }
@@ -567,9 +567,9 @@ impl<'a, N: Names> Parser<'a, N> {
             if rest.is_empty() {
                 return Ok(());
             }
-            sink.tell(Piece::Line(here.level))?;
+            sink.tell(&Piece::Line(here.level))?;
             let (is_if, behind) = self.tell_term(here.at(position), end, locals, sink, rest)?;
-            sink.tell(Piece::EndOfLine)?;
+            sink.tell(&Piece::EndOfLine)?;
             position = position_after(position, is_if);
             rest = behind;
         }
@@ -646,9 +646,9 @@ impl<'a, N: Names> Parser<'a, N> {
             if rest.is_empty() {
                 return Ok(units);
             }
-            sink.tell(Piece::Line(here.level))?;
+            sink.tell(&Piece::Line(here.level))?;
             rest = self.tell_field(here, end, locals, &mut units, sink, rest)?;
-            sink.tell(Piece::EndOfLine)?;
+            sink.tell(&Piece::EndOfLine)?;
         }
         if rest.is_empty() {
             Ok(units)
@@ -693,7 +693,7 @@ impl<'a, N: Names> Parser<'a, N> {
             _ => named_unit_of(end, bytes)?,
         };
         keep_unit(&field, units)?;
-        sink.tell(Piece::Field(&field))?;
+        sink.tell(&Piece::Field(&field))?;
         Ok(rest)
     }
 
@@ -720,12 +720,12 @@ impl<'a, N: Names> Parser<'a, N> {
         let (lead, _) = byte_of(end, bytes)?;
         if lead != BUFFER {
             let (link, rest) = named_link_of(self.alloc, end, bytes)?;
-            sink.tell(Piece::Field(&Field::Connection(link)))?;
+            sink.tell(&Piece::Field(&Field::Connection(link)))?;
             return Ok(rest);
         }
-        sink.tell(Piece::Link)?;
+        sink.tell(&Piece::Link)?;
         let (_is_if, rest) = self.tell_term(here.at(Position::Data), end, locals, sink, bytes)?;
-        sink.tell(Piece::EndOfLink)?;
+        sink.tell(&Piece::EndOfLink)?;
         Ok(rest)
     }
 }

@@ -45,25 +45,25 @@ pub struct TableText {
 }
 
 /// A piece of a method's parts. Its flags are printed as such, with a comma before them.
-fn print_method_piece<W: Write>(out: &mut Out<'_, W>, piece: Piece<'_>)
-    ensures { Prints W.contents out.old out.new (method_piece (piece_view piece.entry)) }
+fn print_method_piece<W: Write>(out: &mut Out<'_, W>, piece: &Piece<'_>)
+    ensures { Prints W.contents out.old out.new (method_piece (piece_view piece.now)) }
 {
-    match piece {
+    match *piece {
         Piece::Next => {}
         Piece::Byte(flags) => print_flags(out, flags),
-        _ => print_piece(out, piece),
+        _ => print_piece(out, *piece),
     }
 }
 
 /// A piece of a table's terms.
 #[inline(always)]
-fn print_table_piece<W: Write>(out: &mut Out<'_, W>, in_method: bool, piece: Piece<'_>)
-    ensures { Prints W.contents out.old out.new (made_text in_method (piece_view piece.entry)) }
+fn print_table_piece<W: Write>(out: &mut Out<'_, W>, in_method: bool, piece: &Piece<'_>)
+    ensures { Prints W.contents out.old out.new (made_text in_method (piece_view piece.now)) }
 {
     if in_method {
         print_method_piece(out, piece);
     } else {
-        print_piece(out, piece);
+        print_piece(out, *piece);
     }
 }
 
@@ -130,10 +130,10 @@ impl TableLines<'_, '_> {
 
     /// Another piece.
     #[inline(always)]
-    fn tell_other(&mut self, piece: Piece<'_>)
-        requires other { (m : Made) → grown m (piece_view piece) ≡ grown_text m (piece_view piece) }
+    fn tell_other(&mut self, piece: &Piece<'_>)
+        requires other { (m : Made) → grown m (piece_view piece.now) ≡ grown_text m (piece_view piece.now) }
         ensures same { IsSame self.old self.new }
-        ensures told { Grew self.old self.new (piece_view piece.entry ∷ []) }
+        ensures told { Grew self.old self.new (piece_view piece.now ∷ []) }
     {
         print_table_piece(self.out, self.in_method, piece);
     }
@@ -147,8 +147,8 @@ impl Sink for TableLines<'_, '_> {
     ghost grew = { λ a b ps. IsSame a b × Grew a b ps };
 
     #[inline(always)]
-    fn tell(&mut self, piece: Piece<'_>) -> Result<(), NoMemory> {
-        match piece {
+    fn tell(&mut self, piece: &Piece<'_>) -> Result<(), NoMemory> {
+        match *piece {
             Piece::Body(start, len) => self.tell_body(start, len)?,
             Piece::Line(level) => self.tell_line(level),
             Piece::Opcode(row, width) => self.tell_opcode(row, width),

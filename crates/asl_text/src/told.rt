@@ -160,8 +160,8 @@ impl<W: Write> Sink for Lines<'_, '_, W> {
         Prints W.contents a.out.now b.out.now (flat_map piece_text ps) };
 
     #[inline(always)]
-    fn tell(&mut self, piece: Piece<'_>) -> Result<(), NoMemory> {
-        print_piece(self.out, piece);
+    fn tell(&mut self, piece: &Piece<'_>) -> Result<(), NoMemory> {
+        print_piece(self.out, *piece);
         Ok(())
     }
 

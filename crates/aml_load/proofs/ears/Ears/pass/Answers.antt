@@ -22,7 +22,7 @@ returns c k =
     record {
       heard = λ l. λ i. record {
         listed = with_more l (uses_of k c.args.self.now.uses.items);
-        term = (c.in_ok-note_in.ensures.head k ∙ ap (λ (o : List Around). noted_by (top o) (noted_view c.args.noted.now) head) (sym off)) i;
+        term = (c.in_ok-note_in.ensures.head k ∙ ap (λ (o : List Around). noted_by (top o) (noted_view c.args.noted) head) (sym off)) i;
         around = (on ∙ ap (λ (a : Around). a ∷ stack_view k rest) (c.passed.ensures.passed k) ∙ ap all_passed (sym off)) i;
       };
       numbered = λ old.

@@ -21,5 +21,5 @@ said_on old new (Some e) p r still one says = absurd cc
 
 pub returns-in-Ok : goal.returns-in-Ok
 returns-in-Ok c = λ r says.
-    said_on c.args.self.now.hearing c.hear.new.self c.args.self.now.fault (piece_view c.args.piece) r
+    said_on c.args.self.now.hearing c.hear.new.self c.args.self.now.fault (piece_view c.args.piece.now) r
     (sym c.is_some.ensures ∙ c.if-is_some.false) c.in-Ok.ensures.hears says

@@ -7,7 +7,7 @@ use Rattle.aml_load.proofs.opening.OpeningSink.tell.Goals as goal
 
 pub returns : goal.returns
 returns g c =
-    let told = held_pieces c.args.self.now.held ++ piece_view c.args.piece ∷ [] in
+    let told = held_pieces c.args.self.now.held ++ piece_view c.args.piece.now ∷ [] in
     let none = none_there c.span_of-self.result (sym c.is_some.ensures ∙ c.if-is_some.false) in
     record {
       same = c.in_ok-let_go.ensures.same;

@@ -10,7 +10,7 @@ returns-clause-told c = (
   prints_same _ _ _ _ c.print_table_piece.ensures,
   λ ok.
       let old = c.args.self.now in
-      let p = piece_view c.args.piece in
+      let p = piece_view c.args.piece.now in
       let whole = prints_whole old.out.now c.print_table_piece.new.out (made_text old.in_method p) c.print_table_piece.ensures ok in
       let made : List ℕ → Made =
       λ text. record { text = text; places = old.places.now.items; level = old.level; in_method = old.in_method } in
