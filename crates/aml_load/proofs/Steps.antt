@@ -1,9 +1,10 @@
 -- One step of what is heard, and one that declares nothing behind it.
-use Rattle.std.proofs.Common.{◌≡◌, Ok, Err, OnOk, IfOk, IfErr, Result, sym, ap, subst, inl, inr, ◌∙◌}
+use Rattle.std.proofs.Common.{◌≡◌, ℕ, true, false, [], ◌∷◌, Option, Some, None, is_some, refl, Ok, Err, OnOk, IfOk, IfErr, Result, sym, ap, subst, inl, inr, ◌∙◌}
 use Rattle.aml_namespace.specs.Known.{Known}
 use Rattle.aml_load.specs.Declaring.{◌>>=◌, Listed}
-use Rattle.aml_load.specs.Hearing.{Heard}
-use Rattle.aml_load.specs.HearingViews.{Goes, Hears, StopsBy, AreNumbered, heard_by, heard_in}
+use Rattle.aml_load.specs.Hearing.{Around, Heard, closed, closed_by, done_by, hear, hear_all, is_head, terms, run, head, inner, arguments, elements, units, nowhere}
+use Rattle.aml_code.specs.Pieces.{Told}
+use Rattle.aml_load.specs.HearingViews.{Goes, Hears, Says, StopsBy, AreNumbered, heard_by, heard_in}
 use Rattle.aml_load.specs.Tables.{Fails}
 use Rattle.aml_load.specs.declared.ears.Ears.{Ears}
 use Rattle.aml_load.specs.declared.faults.LoadFault.{LoadFault}
@@ -75,6 +76,28 @@ heard_as old new first step same one = record {
   numbered = one.numbered;
 }
 
+-- behind the tail of an opcode: of a term of a list, and of another one
+pub closed_in : (a : Around) (span : ℕ × ℕ) (x : Heard) → is_head a ≡ true
+    → closed_by true a span x ≡ (done_by x.term span x >>= λ y. Ok (closed y))
+closed_in (head ks) span x in_head = refl
+closed_in (terms w) span x in_head = absurd cc
+closed_in (run w) span x in_head = absurd cc
+closed_in (inner ks) span x in_head = absurd cc
+closed_in arguments span x in_head = absurd cc
+closed_in elements span x in_head = absurd cc
+closed_in units span x in_head = absurd cc
+closed_in nowhere span x in_head = absurd cc
+
+pub closed_else : (a : Around) (span : ℕ × ℕ) (x : Heard) → is_head a ≡ false → closed_by true a span x ≡ Ok (closed x)
+closed_else (head ks) span x other = absurd cc
+closed_else (terms w) span x other = refl
+closed_else (run w) span x other = refl
+closed_else (inner ks) span x other = refl
+closed_else arguments span x other = refl
+closed_else elements span x other = refl
+closed_else units span x other = refl
+closed_else nowhere span x other = refl
+
 -- a step behind one that declares nothing
 pub hears_on : (p : Progress) (old mid : Ears) (new : Hearing) (first : Heard → Heard) (step : Heard → Result Heard LoadFault)
     → Goes p.space old mid first → Hears (hearing p mid) new step → Hears (hearing p old) new (λ x. step (first x))
@@ -91,3 +114,15 @@ stops_on p old mid first step e one two l h = subst (λ (x : Heard). Fails e (st
 pub fails_on : (e : LoadFault) (r : Result Heard LoadFault) (next : Heard → Result Heard LoadFault) → Fails e r → Fails e (r >>= next)
 fails_on e r next (inl want) = inl want
 fails_on e r next (inr fails) = inr (ap (λ (r : Result Heard LoadFault). r >>= next) fails)
+
+-- a piece behind what was heard
+pub said_on : (old new : Hearing) (f : Option LoadFault) (p : Told) (r : Result Heard LoadFault) → is_some f ≡ false
+    → Hears old new (hear true p) → Says (old, f) r → Says (new, f) (r >>= λ x. hear_all true (p ∷ []) x)
+said_on old new None p r still one (l, h, is) =
+    let a = one.heard l h in (
+      a.0,
+      a.1,
+      ap (λ (r : Result Heard LoadFault). r >>= λ x. hear_all true (p ∷ []) x) is
+          ∙ ap (λ (r : Result Heard LoadFault). r >>= λ y. hear_all true [] y) a.2,
+    )
+said_on old new (Some e) p r still one says = absurd cc

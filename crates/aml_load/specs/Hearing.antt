@@ -172,6 +172,11 @@ asks nowhere = None
 abbrev pub inside : Around → Around → Around
 inside a new = unwrap_or (option_map (λ (b : Bool). new) (asks a)) nowhere
 
+-- whether the parts of a term of a list stand there
+abbrev pub is_head : Around → Bool
+is_head (head ks) = true
+is_head _ = false
+
 -- behind a part, an argument, an element or a term
 abbrev pub passed : Around → Around
 passed (head ks) = head (drop 1 ks)

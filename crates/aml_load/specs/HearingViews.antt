@@ -2,12 +2,13 @@
 use Rattle.std.specs.Prelude.{◌≡◌, ◌<◌, ℕ, Bool, List, [], ◌∷◌, true, Option, Some, None, Result, Ok, Err, drop, length, map, reverse, IfSome, IfOk, OnOk}
 use Rattle.std.specs.List.{AllByRecursion}
 use Rattle.std.specs.Option.{option_map, option_or}
+use Rattle.std.specs.Global.{Box}
 use Rattle.std.specs.Coded.{×_prop, Unit-prop, le_prop}
 use Rattle.aml_code.specs.Lawful.{plain_name}
 use Rattle.aml_names.specs.declared.names.Name.{Name}
 use Rattle.aml_namespace.specs.Known.{Known}
 use Rattle.aml_load.specs.Declaring.{◌>>=◌, Listed, kinds_in, strict}
-use Rattle.aml_load.specs.Hearing.{Around, Head, Heard, catch_all, hear_all, enter, with_more, terms, run, head, inner}
+use Rattle.aml_load.specs.Hearing.{Around, Head, Heard, catch, catch_all, hear, hear_all, enter, with_more, terms, run, head, inner}
 use Rattle.aml_load.specs.Hearing.{arguments, elements, units, nowhere}
 use Rattle.aml_load.specs.declared.groups.Group.{Group}
 use Rattle.aml_load.specs.Walking.{at_site, Holds}
@@ -44,7 +45,7 @@ around_view k kept.Nowhere = nowhere
 
 -- the last name among the parts
 abbrev pub last_of : KeptHead → Option Name
-last_of h = option_or h.later h.source
+last_of h = option_or (option_map (λ (b : Box Name). b.value) h.later) h.source
 
 abbrev pub head_view : Known → KeptHead → Head
 head_view k h = record {
@@ -107,6 +108,10 @@ pub record Hears (old new : Hearing) (step : Heard → Result Heard LoadFault) :
   pub heard : (l : Listed) → Holds old.progress l
       → (m : Listed) × Holds new.progress m × (step (heard_by old l) ≡ Ok (heard_by new m))
   pub numbered : AreNumbered new.progress.space new.ears
+
+-- behind this piece no term does anything, whatever is listed before it
+abbrev pub IsQuiet : Hearing → Told → Type 0
+IsQuiet h p = (l : Listed) → hear true p (heard_by h l) ≡ Ok (catch p (heard_by h l))
 
 -- the fault of a step, whatever is listed before it, unless memory was refused
 abbrev pub StopsBy : Hearing → (Heard → Result Heard LoadFault) → LoadFault → Type 0

@@ -8,7 +8,7 @@ ghost use Rattle.aml_namespace.specs.Known.{Known};
 ghost use Rattle.aml_load.specs.Declaring.{kinds_in};
 ghost use Rattle.aml_load.specs.Hearing.{Heard, asks, asks_of, passed, inside, catch, closed, head_of, call_at, with_part};
 ghost use Rattle.aml_load.specs.Hearing.{with_unit, behind_part, noted_by, left, top, opening, asked_by, named_by};
-ghost use Rattle.aml_load.specs.Hearing.{opened_by, unit_by, list_in, shape_by, run, hear, is_block};
+ghost use Rattle.aml_load.specs.Hearing.{opened_by, unit_by, list_in, shape_by, run, hear, is_block, is_head};
 ghost use Rattle.aml_load.specs.HearingViews.{around_view, head_view, last_of, noted_view, stack_view, Goes};
 ghost use Rattle.aml_load.specs.HearingViews.{IsNumbered, IsHeadNumbered, AreNumbered};
 ghost use Rattle.aml_load.specs.Walking.{at_site};
@@ -72,8 +72,8 @@ pub struct Head {
     pub begun: bool,
     /// The first part, if it is a name.
     pub source: Option<Name>,
-    /// The last name among the parts behind it.
-    pub later: Option<Name>,
+    /// The last name among the parts behind it. Few terms have one: it stands apart, so that a head is short.
+    pub later: Option<Box<Name>>,
     /// The last byte among them.
     pub byte: Option<u8>,
     /// The named units behind them.
@@ -110,6 +110,16 @@ impl Around {
             Around::Arguments => Some(true),
             Around::Elements | Around::Units => Some(false),
             Around::Terms(_) | Around::Run(_) | Around::Nowhere => None,
+        }
+    }
+
+    /// Whether the parts of a term of a list stand there.
+    pub fn is_head(&self) -> bool
+        ensures { (k : Known) → result ≡ is_head (around_view k self.now) }
+    {
+        match self {
+            Around::Head(..) => true,
+            _ => false,
         }
     }
 
@@ -189,6 +199,7 @@ impl Head {
     }
 
     /// Behind a part.
+    #[inline(always)]
     pub fn note(&mut self, noted: &Noted<'_>) -> Result<(), NoMemory>
         ensures noted { (k : Known) → OnOk result
             (head_view k self.new ≡ with_part (noted_view noted.now) (head_view k self.old)) }
@@ -204,17 +215,19 @@ impl Head {
     }
 
     /// Notes a name.
+    #[inline(never)]
     fn note_label(&mut self, name: &Name) -> Result<(), NoMemory>
-        ensures { OnOk result (self.new ≡ record self.old {
+        ensures noted { (k : Known) → OnOk result (head_view k self.new ≡ record (head_view k self.old) {
           source = cond self.old.begun self.old.source (Some name.now);
-          later = cond self.old.begun (Some name.now) None;
+          last = Some name.now;
         }) }
+        ensures site { OnOk result (self.new.site ≡ self.old.site) }
     {
-        let kept = Some(name.clone()?);
+        let kept = name.clone()?;
         if self.begun {
-            self.later = kept;
+            self.later = Some(Box::new(*self.units.allocator(), kept)?);
         } else {
-            self.source = kept;
+            self.source = Some(kept);
             self.later = None;
         }
         Ok(())
@@ -226,7 +239,7 @@ impl Head {
     {
         match &self.later {
             None => self.source.as_ref(),
-            Some(name) => Some(name),
+            Some(name) => Some(&**name),
         }
     }
 
@@ -244,6 +257,7 @@ impl Head {
 }
 
 /// Behind a part, which may be one of a head.
+#[inline(always)]
 fn note_in(head: &mut Option<Head>, around: &Around, noted: &Noted<'_>) -> Result<(), NoMemory>
     ensures head { (k : Known) → OnOk result (option_map (head_view k) head.new
         ≡ noted_by (around_view k around.now) (noted_view noted.now) (option_map (head_view k) head.old)) }
@@ -313,6 +327,7 @@ impl Ears {
     }
 
     /// Behind a part.
+    #[inline(always)]
     fn pass(&mut self, noted: Noted<'_>) -> Result<(), NoMemory>
         ensures { (k : Known) → OnOk result (Goes k self.old self.new (behind_part (noted_view noted.entry))) }
     {

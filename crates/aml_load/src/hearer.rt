@@ -11,6 +11,7 @@ ghost use Rattle.aml_code.specs.declared.rows.Position.{Position};
 ghost use Rattle.aml_names.specs.NameReading.{Fails as NotRead};
 ghost use Rattle.aml_parse.specs.Reading.{all_at};
 ghost use Rattle.aml_load.specs.HearingViews.{Says, Ended, Grew, TableHeard, FailsToTell, HasNumbers, HasNumbers-prop, begun};
+ghost use Rattle.aml_load.specs.HearingViews.{IsQuiet};
 ghost use Rattle.aml_load.specs.Walking.{Holds};
 ghost use Rattle.aml_load.specs.declared.faults.LoadFault.{LoadFault as AnyFault};
 
@@ -63,6 +64,25 @@ impl Hearer {
 }
 
 impl Hearer {
+    /// A piece behind which no term does anything, as most are. Of the reader's frame it takes nothing.
+    #[inline(never)]
+    fn catch(&mut self, piece: &Piece<'_>) -> Result<(), NoMemory>
+        requires quiet { IsQuiet self.old.hearing (piece_view piece.now) }
+        ensures grew { OnOk result (Grew (self.old.hearing, self.old.fault) (self.new.hearing, self.new.fault)
+            (piece_view piece.now ∷ [])) }
+    {
+        if self.fault.is_some() {
+            return Ok(());
+        }
+        match self.hearing.catch(piece) {
+            Ok(()) => Ok(()),
+            Err(refused) => {
+                self.fault = Some(LoadFault::NoMemory);
+                Err(refused)
+            }
+        }
+    }
+
     /// A piece that may declare. Of the reader's frame it takes nothing.
     #[inline(never)]
     fn take(&mut self, piece: &Piece<'_>) -> Result<(), NoMemory>
@@ -96,6 +116,9 @@ impl Sink for Hearer {
     fn tell(&mut self, piece: &Piece<'_>) -> Result<(), NoMemory> {
         if is_silent(piece) {
             return Ok(());
+        }
+        if self.hearing.is_quiet(piece) {
+            return self.catch(piece);
         }
         self.take(piece)
     }

@@ -6,7 +6,7 @@ ghost use Rattle.aml_namespace.specs.Known.{Known};
 ghost use Rattle.aml_load.specs.Declaring.{Listed};
 ghost use Rattle.aml_load.specs.Hearing.{hear, left, top, enter, enter_as, enter_kind, closed_by, done_by, inside_by};
 ghost use Rattle.aml_load.specs.Hearing.{entered_by, is_own_terms, catch};
-ghost use Rattle.aml_load.specs.HearingViews.{around_view, head_view, Hears, StopsBy, IsNumbered, AreNumbered};
+ghost use Rattle.aml_load.specs.HearingViews.{around_view, head_view, Hears, IsQuiet, StopsBy, IsNumbered, AreNumbered};
 ghost use Rattle.aml_load.specs.HearingViews.{Entered, EntersPlain, EntersFlat, Finishes};
 ghost use Rattle.aml_load.specs.Walking.{at_site, Holds, IsInside, IsPlain, Stays};
 ghost use Rattle.aml_namespace.specs.Kinds.{kind_in};
@@ -48,7 +48,7 @@ impl Hearing {
         ensures hears { OnOk result (Hears self.old self.new (λ x. closed_by true (top x.around) span x)) }
         ensures stops { IfErr result (StopsBy self.old (λ x. closed_by true (top x.around) span x)) }
     {
-        if let Around::Head(..) = self.ears.top() {
+        if self.ears.top().is_head() {
             self.finish_flat(span)?;
         }
         self.ears.close()?;
@@ -103,12 +103,25 @@ impl Hearing {
 
     /// A piece behind which no term does anything.
     #[inline(always)]
-    fn catch(&mut self, piece: &Piece<'_>) -> Result<(), NoMemory>
+    pub fn catch(&mut self, piece: &Piece<'_>) -> Result<(), NoMemory>
         requires { AreNumbered self.old.progress.space self.old.ears }
         ensures { OnOk result (Hears self.old self.new (λ x. Ok (catch (piece_view piece.now) x))) }
     {
         self.ears.catch(piece)?;
         Ok(())
+    }
+
+    /// Whether no term does anything behind a piece.
+    #[inline(always)]
+    pub fn is_quiet(&self, piece: &Piece<'_>) -> bool
+        ensures { result ≡ true → IsQuiet self.now (piece_view piece.now) }
+    {
+        match piece {
+            Piece::Body(..) | Piece::List(_) | Piece::EndOfList(..) => false,
+            Piece::Empty => !self.ears.top().is_head(),
+            Piece::Bytes(_) => !self.ears.top().is_head(),
+            _ => true,
+        }
     }
 
     /// A piece.

@@ -218,6 +218,7 @@ fn parents_of(bytes: &[u8]) -> usize
 ///
 /// `Truncated` at the span's end where a byte is wanted, `BadName` at a byte that can't stand in its place, whichever
 /// comes first. `NoMemory` also for more parent prefixes than a `u32` counts.
+#[inline(always)]
 pub fn name_of(alloc: Global, end: u32, bytes: &[u8]) -> Result<(Name, &[u8]), CodeFault>
     ensures exact { Gives (λ x. (x.0, x.1.now)) result (name_at end bytes.now) }
 {

@@ -70,7 +70,7 @@ impl fmt::Display for Seg {
 }
 
 /// The segments of a name. Most names have a few, which need no allocation.
-#[derive(Clone, Drop)]
+#[derive(Drop)]
 pub struct Segs {
     segs: SmallVec<Seg, 4>,
 }
@@ -82,6 +82,20 @@ impl Model for Segs {
     ghost Value = { List Seg };
 
     ghost view = { λ s. s.segs.items };
+}
+
+impl Clone for Segs {
+    ghost use Rattle.std.specs.Prelude.{◌≡◌};
+
+    ghost is_clone = { λ segs copy. copy ≡ segs };
+
+    fn clone(&self) -> Result<Segs, AllocError> {
+        let alloc = *self.segs.allocator();
+        match self.as_slice() {
+            [seg] => Ok(Segs::one(alloc, *seg)),
+            segs => Segs::of(alloc, segs),
+        }
+    }
 }
 
 impl Segs {

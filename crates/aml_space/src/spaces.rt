@@ -23,7 +23,8 @@ use crate::below::Below;
 use crate::counting::{count_of, open_met, scope_met, sure_met};
 use crate::faults::SpaceFault;
 use crate::growing::{
-    declare_again, declare_first, extend, is_taken, reach_below, reach_from, set_given, set_out,
+    declare_again, declare_first, extend, is_taken, reach_below, reach_from, reach_made,
+    set_given, set_out,
 };
 use crate::listing::{Rows, list_rows};
 use crate::nodes::Node;
@@ -291,7 +292,7 @@ impl Space {
         ensures ok { IfOk result (λ id. StandsAt self.new id (path_below self.old.paths path.now)) }
         ensures err { OnErr result (self.new ≡ self.old) }
     {
-        let reach = reach_below(self.nodes.as_slice(), path);
+        let reach = reach_made(self.nodes.as_slice(), path);
         let node = extend(self.alloc, &mut self.nodes, reach)?;
         let depth = depth_at(self.nodes.as_slice(), node) as usize;
         self.deepest = self.deepest.max(depth);

@@ -138,7 +138,7 @@ pub(crate) fn print_piece<W: Write>(out: &mut Out<'_, W>, piece: Piece<'_>)
         Piece::List(kind) => print_list_opening(out, kind),
         Piece::EndOfList(kind, level) => print_list_closing(out, kind, level),
         Piece::Line(level) => print_indent(out, level),
-        Piece::EndOfLine => print_fixed(out, b"\n"),
+        Piece::EndOfLine => out.put(b"\n"),
         Piece::Field(field) => field.print(out),
         Piece::Link => print_fixed(out, b"Connection ("),
         Piece::EndOfLink => print_fixed(out, b")"),

@@ -38,4 +38,4 @@ pub returns-clause-ok : goal.returns-clause-ok
 returns-clause-ok c = ap (slice_get (paths_in c.extend.new.nodes.items)) c.new.ensures
     ∙ numbered c.extend.new.nodes.items c.extend.ensures.index (path_below c.args.self.now.paths c.args.path.now) c.in_ok-node.node
     (subst (λ p. walk (kids_of c.extend.new.nodes.items) 0 p ≡ Some c.in_ok-node.node)
-    (reach_path _ _ c.args.self.now c.reach_below-reach.result c.args.path.now c.as_slice.ensures.value c.self.view_is c.reach_below-reach.ensures.path) c.in_ok-node.ensures.node)
+    (reach_path _ _ c.args.self.now c.reach_made-reach.result c.args.path.now c.as_slice.ensures.value c.self.view_is c.reach_made-reach.ensures.path) c.in_ok-node.ensures.node)
