@@ -23,8 +23,8 @@ use crate::below::Below;
 use crate::counting::{count_of, open_met, scope_met, sure_met};
 use crate::faults::SpaceFault;
 use crate::growing::{
-    declare_again, declare_first, extend, is_taken, reach_below, reach_from, reach_made,
-    set_given, set_out,
+    declare_again, declare_first, extend, is_taken, reach_below, reach_from, reach_made, set_given,
+    set_out,
 };
 use crate::listing::{Rows, list_rows};
 use crate::nodes::Node;
