@@ -9,8 +9,10 @@ use Rattle.aml_code.proofs.tree.Field.TheLaws.TheKnot as Field
 use Rattle.aml_code.specs.contracts.tree.Node as Node
 use Rattle.aml_load.below.aml_children.proofs.trees.Tree.TheLaws.TheKnot as Tree
 use Rattle.aml_set.specs.contracts.tables.TableSet as TableSet
+use Rattle.aml_space.specs.contracts.rows.Row as Row
 use Rattle.aml_space.specs.contracts.spaces.Space as Space
 use Rattle.acpidis.specs.contracts.bodies.Keeping as Keeping
+use Rattle.acpidis.specs.contracts.rows.Printing as Printing
 
 space_sync : IsSync Space.the_row
 space_sync = search (crosses, Maps.crosses, Tree.crosses, sendable) depth 80 fits 60000
@@ -28,3 +30,11 @@ keeping_sync a b K kept =
       search (sendable, crosses),
       (shr_sync _ _ (TableSet.the_row b) (set_sync b), (search (sendable, crosses), (shr_sync _ _ K kept, tt))),
     ))
+
+row_sync : (a : NamedLft) → IsSync (Row.the_row a)
+row_sync a = search (crosses, Maps.crosses, Tree.crosses, sendable) depth 80 fits 60000
+
+pub printing_sync : (r a : NamedLft) → IsSync (Printing.the_row r a)
+printing_sync r a =
+    let T = Printing.the_type r a in
+    recorded_sync _ _ T.to T.to_one (struct_sync (shape T) (search (row_sync, crosses, sendable)))

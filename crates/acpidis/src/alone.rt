@@ -41,6 +41,7 @@ pub fn run_alone<O: Write, E: Write>(
         dumps,
         set: &set,
         texts: texts.as_slice(),
+        rows: &[],
     };
     listing_alone(alloc, tables, options, out, err)
 }

@@ -11,6 +11,7 @@ mod faults;
 mod lines;
 mod options;
 mod refusal;
+mod rows;
 mod running;
 mod tables;
 mod texts;

@@ -16,6 +16,7 @@ use crate::disassembling::load_names_set;
 use crate::faults::RunFault;
 use crate::options::Options;
 use crate::refusal::Refusal;
+use crate::rows::row_texts;
 use crate::texts::Texts;
 use crate::told::load_texts;
 use crate::trials::{Trials, Tried};
@@ -112,6 +113,7 @@ fn run_set<R: Threads + Wait + Sync, G: Gate + Sync, O: Write, E: Write>(
         dumps,
         set: &set,
         texts: texts.as_slice(),
+        rows: &[],
     };
     let ended = run_listing(crew, tables, options, out, err);
     forget((set, texts));
@@ -119,7 +121,7 @@ fn run_set<R: Threads + Wait + Sync, G: Gate + Sync, O: Write, E: Write>(
 }
 
 /// Writes the listing of a loaded set, and a line on `err` for each body that can't be read. Each body is read and
-/// printed by a worker, which lets its terms go. Answers the status.
+/// printed by a worker, which lets its terms go, and so are the rows of a large namespace. Answers the status.
 fn run_listing<R: Threads + Wait + Sync, G: Gate + Sync, O: Write, E: Write>(
     crew: &Crew<'_, R, G>,
     tables: Tables<'_, '_>,
@@ -138,8 +140,15 @@ fn run_listing<R: Threads + Wait + Sync, G: Gate + Sync, O: Write, E: Write>(
         levels: levels.as_slice(),
     };
     let found = keep_bodies(crew, set, options.unknown_zero, &keep)?;
+    let rows = row_texts(crew, &set.space).unwrap_or(Vec::new(crew.alloc));
+    let tables = Tables {
+        dumps: tables.dumps,
+        set,
+        texts: tables.texts,
+        rows: rows.as_slice(),
+    };
     let ended = print_listing(tables, options, keep, found.items.as_slice(), out, err);
-    forget((levels, found));
+    forget((levels, found, rows));
     ended
 }
 

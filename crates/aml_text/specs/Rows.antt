@@ -1,5 +1,6 @@
 -- The second part of a listing: the namespace, a line for each declared path.
-use Rattle.std.specs.Prelude.{ℕ, Bool, nat_lt, decimal, List, [], ◌++◌, map, flat_map, length, cond}
+use Rattle.std.specs.Prelude.{ℕ, ◌*◌, Bool, nat_lt, decimal, List, [], ◌∷◌, ◌++◌, Vec, map, flat_map, length, cond, take, drop}
+use Rattle.std.specs.Global.{Global}
 use Rattle.aml_names.specs.declared.segments.Seg.{Seg}
 use Rattle.aml_namespace.specs.Kinds.{Kind}
 use Rattle.aml_namespace.specs.declared.kinds.Kind.TheVariants.{Scope, Name, Method, Alias, Device, Processor}
@@ -48,3 +49,14 @@ row_line row = line 1 (marked_text row)
 -- the number of rows, and their lines: Namespace 2
 unfoldable pub namespace_text : List (List Seg × Declared) → List ℕ
 namespace_text rows = line 0 (word "Namespace " ++ decimal (length rows)) ++ flat_map row_line rows
+
+-- ---- rows in pieces, each of which is printed by itself
+
+-- the piece of this number: 512 rows behind those of the pieces before it, and as many as are left in the last
+abbrev pub piece_of : List (List Seg × Declared) → ℕ → List (List Seg × Declared)
+piece_of rows n = take 512 (drop (n * 512) rows)
+
+-- the lines of rows, of which some texts are the pieces, if they are printed already
+abbrev pub lines_by : List (List Seg × Declared) → List (Vec ℕ Global) → List ℕ
+lines_by rows [] = flat_map row_line rows
+lines_by rows (text ∷ texts) = flat_map (λ t. t.items) (text ∷ texts)

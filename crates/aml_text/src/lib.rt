@@ -1,11 +1,13 @@
 //! The text of a listing: the dumps, the namespace and the definition blocks of a set of tables, exactly as the
 //! definitions of `specs/` say.
 //!
-//! Nothing here takes memory, but for `body_levels`. Each printing function's contract gives the text that it prints.
+//! Nothing here takes memory, but for `body_levels`, `short_rows` and `piece_text`. Each printing function's contract
+//! gives the text that it prints.
 #![tactic(auto)]
 
 mod levels;
 mod listing;
+mod pieces;
 mod rows;
 mod tables;
 mod told;
@@ -16,6 +18,7 @@ pub use asl_text::{
 };
 pub use levels::body_levels;
 pub use listing::{Listing, Tables};
+pub use pieces::{count_pieces, piece_text, short_rows};
 pub use rows::print_rows;
 pub use tables::{Blocks, dump_of};
 pub use writing::{write_listing, write_printed};

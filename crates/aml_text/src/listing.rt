@@ -1,5 +1,7 @@
 //! What is known of a set of tables.
-ghost use Rattle.std.specs.Prelude.{◌≡◌, [], length};
+ghost use Rattle.std.specs.Prelude.{◌≡◌, [], flat_map, length};
+ghost use Rattle.std.specs.FinMap as map;
+ghost use Rattle.aml_text.specs.Rows.{lines_by, row_line};
 
 use acpi_tables::{Dump, Order};
 use aml_set::{Loaded, TableSet};
@@ -26,6 +28,10 @@ pub struct Tables<'s, 'a> {
     pub dumps: &'s [Dump],
     pub set: &'s TableSet<'a>,
     pub texts: &'s [Option<TableText>],
+    /// The lines of the rows of the namespace, in pieces: none where they aren't printed yet.
+    pub rows: &'s [Vec<u8>],
+    pub ghost lines: { lines_by (map.entries set.now.space.declarations) rows.now
+        ≡ flat_map row_line (map.entries set.now.space.declarations) },
 }
 
 impl<'s, 'a> Tables<'s, 'a> {
@@ -34,11 +40,13 @@ impl<'s, 'a> Tables<'s, 'a> {
         ensures dumps { result.dumps.now ≡ dumps.now }
         ensures set { result.set.now ≡ set.now }
         ensures texts { result.texts.now ≡ [] }
+        ensures rows { result.rows.now ≡ [] }
     {
         Tables {
             dumps,
             set,
             texts: &[],
+            rows: &[],
         }
     }
 }

@@ -8,6 +8,7 @@ ghost use Rattle.asl_text.specs.Texts.{line, segment_text, separated};
 ghost use Rattle.aml_text.specs.Rows.{path_text, kind_text, maybe_text, times_text, marked_text, row_line};
 ghost use Rattle.aml_text.specs.Rows.{namespace_text};
 
+use crate::listing::Tables;
 use aml_names::Seg;
 use aml_space::{Kind, Row, Rows, Space, SpacePath};
 use asl_text::{print_indent, print_segments};
@@ -15,7 +16,7 @@ use std::io::Write;
 use text_writer::{Out, print_decimal};
 
 /// How many segments of a path are printed at a time, as long as no path is deeper.
-const SMALL_WINDOW: usize = 64;
+pub(crate) const SMALL_WINDOW: usize = 64;
 
 /// How many behind the first deeper one, 512 KB of them on the stack: a little more than the deepest path has that 510
 /// Devices of 255 segments make. A deeper path would be gone up once for each so many.
@@ -136,7 +137,7 @@ fn print_marked<W: Write>(out: &mut Out<'_, W>, row: &Row<'_>, window: &mut [Seg
 }
 
 /// The line of a path with its kind.
-fn print_row<W: Write>(out: &mut Out<'_, W>, row: &Row<'_>, window: &mut [Seg])
+pub(crate) fn print_row<W: Write>(out: &mut Out<'_, W>, row: &Row<'_>, window: &mut [Seg])
     requires room { 1 ≤ length window.old }
     ensures text { Prints W.contents out.old out.new (row_line row.now) }
     ensures long { length window.new ≡ length window.old }
@@ -177,14 +178,14 @@ fn print_deep<W: Write>(out: &mut Out<'_, W>, row: &Row<'_>, others: Rows<'_>)
     print_others(out, others, &mut window);
 }
 
-/// Whether a row has a path, or an Alias's target, that is deeper than the small window.
-fn is_deep(row: &Row<'_>) -> bool {
+/// Whether the path of a row, or an Alias's target, has more than so many segments.
+pub(crate) fn is_deep(row: &Row<'_>, most: usize) -> bool {
     let kind = row.kind();
     let target = match kind.target() {
         None => 0,
         Some(target) => target.depth(),
     };
-    row.path().depth().max(target) > SMALL_WINDOW
+    row.path().depth().max(target) > most
 }
 
 /// The lines of rows.
@@ -194,7 +195,7 @@ fn print_lines<W: Write>(out: &mut Out<'_, W>, rows: Rows<'_>)
     let mut window = [Seg::default(); SMALL_WINDOW];
     let mut left = rows;
     'rows: while let Some(row) = left.next() {
-        if is_deep(&row) {
+        if is_deep(&row, SMALL_WINDOW) {
             return print_deep(out, &row, left);
         }
         print_row(out, &row, &mut window);
@@ -208,4 +209,26 @@ pub fn print_rows<W: Write>(out: &mut Out<'_, W>, space: &Space)
     let count = space.row_count();
     print_count(out, count);
     print_lines(out, space.in_order());
+}
+
+/// The namespace of tables, by the texts of its rows, if they are printed already.
+pub(crate) fn print_set_rows<W: Write>(out: &mut Out<'_, W>, tables: Tables<'_, '_>)
+    ensures { Prints W.contents out.old out.new
+        (namespace_text (map.entries tables.entry.set.now.space.declarations)) }
+{
+    let space = &tables.set.space;
+    if tables.rows.is_empty() {
+        return print_rows(out, space);
+    }
+    print_count(out, space.row_count());
+    print_texts(out, tables.rows);
+}
+
+/// Texts, one behind the other.
+fn print_texts<W: Write>(out: &mut Out<'_, W>, texts: &[Vec<u8>])
+    ensures { Prints W.contents out.old out.new (flat_map (λ t. t.items) texts.now) }
+{
+    for text in texts {
+        out.put(text.as_slice());
+    }
 }

@@ -7,7 +7,7 @@ ghost use Rattle.aml_text.specs.Listing.{shown_text};
 ghost use Rattle.aml_text.specs.Told.{kept_text};
 
 use crate::listing::{Listing, Tables};
-use crate::rows::print_rows;
+use crate::rows::{print_rows, print_set_rows};
 use crate::tables::print_tables;
 use crate::told::print_kept;
 use acpi_tables::Dump;
@@ -63,7 +63,7 @@ impl Print for KeptParts<'_, '_, '_> {
 
     fn print<W: Write>(&self, out: &mut Out<'_, W>) {
         print_dumps(out, self.tables.dumps);
-        print_rows(out, &self.tables.set.space);
+        print_set_rows(out, self.tables);
         print_kept(out, self.tables, self.bodies);
     }
 }

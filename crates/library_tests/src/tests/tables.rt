@@ -95,6 +95,7 @@ fn are_written(
         dumps: &[],
         set,
         texts,
+        rows: &[],
     };
     let mut text = Vec::new(alloc);
     if write_printed(&mut text, tables, &two_bodies(alloc)?).is_err() {

@@ -10,6 +10,6 @@ returns g c =
     let dumps = dumps_text t.dumps.now in
     let rows = namespace_text (finite.entries t.set.now.space.declarations) in
     let blocks = kept_blocks t.dumps.now t.set.now.tables.items t.texts.now (bodies_lines parts.bodies) in
-    prints_then g.W.Write.contents c.args.out.now c.print_rows.new.out c.print_kept.new.out (dumps ++ rows) blocks
-    (prints_then g.W.Write.contents c.args.out.now c.print_dumps.new.out c.print_rows.new.out dumps rows c.print_dumps.ensures c.print_rows.ensures)
+    prints_then g.W.Write.contents c.args.out.now c.print_set_rows.new.out c.print_kept.new.out (dumps ++ rows) blocks
+    (prints_then g.W.Write.contents c.args.out.now c.print_dumps.new.out c.print_set_rows.new.out dumps rows c.print_dumps.ensures c.print_set_rows.ensures)
     c.print_kept.ensures
