@@ -6,6 +6,7 @@ pub mod Spelling
 pub mod MeaningLaws
 pub mod RunLaws
 pub mod ToldLaws
+mod BesideLaws
 pub mod TrialLaws
 pub mod CheckLaws
 pub mod SameLaws

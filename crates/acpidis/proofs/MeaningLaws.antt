@@ -1,6 +1,6 @@
 -- A set of dumps means one listing: what an order and a load of it give is what the dumps load to, with the bodies that
 -- were read it is what they mean, and whatever they mean is that. What a refused load tells is told of the one order.
-use Rattle.acpidis.proofs.Common.{AllZip, ◌≡◌, ◌≤◌, ℕ, List, [], ◌∷◌, map, length, drop, refl, sym, ap, ap₂}
+use Rattle.acpidis.proofs.Common.{AllZip, ◌≡◌, ◌≤◌, ℕ, List, [], ◌∷◌, map, length, refl, sym, ap₂}
 use Rattle.acpidis.proofs.Common.{◌∙◌, Trees, Entry}
 use Rattle.acpidis.proofs.Common.{LoadsBy, methods_in, methods_of, HoldsBy, HoldsLoad, Loaded, TableSet, table_dumps, IsListed, Dump}
 use Rattle.acpidis.proofs.Common.{Order, IsOrder, Body, indexes_in, Options, codes_in}

@@ -1,4 +1,6 @@
 -- What the workers share may be shared.
+use denote.Param.Send.{IsSend}
+use Rattle.acpidis.specs.contracts.beside.Part as Part
 use Rattle.acpidis.proofs.Common.{IsSync, sendable, recorded_sync, shr_sync, struct_sync}
 use denote.Ref.{NamedLft}
 use denote.RattleType.{RattleType}
@@ -38,3 +40,16 @@ pub printing_sync : (r a : NamedLft) → IsSync (Printing.the_row r a)
 printing_sync r a =
     let T = Printing.the_type r a in
     recorded_sync _ _ T.to T.to_one (struct_sync (shape T) (search (row_sync, crosses, sendable)))
+
+-- ---- what a worker makes of a set may be handed on
+space_send : IsSend Space.the_row
+space_send = search (crosses, Maps.crosses, Tree.crosses, sendable) depth 80 fits 60000
+
+node_send : IsSend Node.the_row
+node_send = search (crosses, Field.crosses, sendable) depth 80 fits 60000
+
+set_send : (b : NamedLft) → IsSend (TableSet.the_row b)
+set_send b = search (space_send, node_send, crosses, sendable) depth 60 fits 40000
+
+pub part_send : (b : NamedLft) → IsSend (Part.the_row b)
+part_send b = search (set_send, crosses, sendable) depth 60 fits 40000

@@ -3,11 +3,11 @@ use Rattle.acpidis.proofs.Common.{◌≡◌, ℕ, suc, ◌+◌, ◌-◌, Bool, t
 use Rattle.acpidis.proofs.Common.{sym, ◌∙◌, Trees, Entry, ReadsModule, Dump, Options, Table, TableSet, table_codes}
 use Rattle.std.proofs.Common.{Option, None, ◌⊎◌, inl, inr}
 use Rattle.std.specs.Prelude.{IfSome, is_some, option_map, unwrap_or}
-use Rattle.std.specs.List.{list_all}
+use Rattle.std.specs.List.{AllZip, list_all}
 use Rattle.aml_code.specs.Faults.{Arities, most_levels}
 use Rattle.aml_code.specs.Lawful.{ReadsStep, has_opcode, next_position}
 use Rattle.aml_code.specs.Opcodes.{Row, row_of}
-use Rattle.aml_code.specs.Pieces.{Told}
+use Rattle.aml_code.specs.Pieces.{Told, line_pieces}
 use Rattle.aml_code.specs.Tree.{Tree, nothing, named, op, no_trees, tree_more, terms, bytes, elements, fields, body, empty}
 use Rattle.aml_code.specs.declared.rows.Position.{Position}
 use Rattle.aml_code.specs.declared.rows.Position.TheVariants as positions
@@ -20,6 +20,7 @@ use Rattle.aml_text.specs.Told.{AreTold}
 use Rattle.asl_text.specs.Tables.{AreSteps, IsMade, IsStep, StandsIn, has_terms, is_block}
 use Rattle.asl_text.specs.declared.tables.TableText.{TableText}
 use Rattle.asl_text.specs.declared.tables.TableTexts.{TableTexts}
+use Rattle.acpidis.specs.Beside.{IsLoaded, IsTextOf}
 use Rattle.acpidis.specs.Told.{AreTexts, HasTexts, IsKeptSet}
 
 -- ---- a table whose code may run is read in steps
@@ -125,4 +126,33 @@ set_told s dumps options x texts (trees, (from, kept)) each =
     let read = seen_so _ _ _ _ _ _ _ _ _ _ has.tables has.trees from.sound.1.loads.read in (
       trees,
       (from, all_told _ _ _ _ _ _ x.tables.items trees texts read each (texts_kept s (table_codes x.tables.items) trees texts kept)),
+    )
+
+-- ---- texts that were told beside the load
+
+own_texts : (any z : Bool) (last es fs : List Entry) (n : ℕ) (codes : List (List ℕ)) (trees : List Trees)
+    (texts : List (Option TableText)) → any ≡ false → TablesLoad any z last n es codes trees fs
+    → AllZip (λ code text. IfSome text (IsTextOf code)) codes texts → AreTexts trees texts
+own_texts any z last es fs n [] [] [] strict loads own = tt
+own_texts any z last es fs n [] [] (x ∷ xs) strict loads own = absurd own
+own_texts any z last es fs n [] (u ∷ us) texts strict loads own = absurd loads
+own_texts any z last es fs n (c ∷ cs) [] texts strict loads own = absurd loads
+own_texts any z last es fs n (c ∷ cs) (u ∷ us) [] strict loads own = absurd own
+own_texts true z last es fs n (c ∷ cs) (u ∷ us) (x ∷ xs) strict loads own = absurd cc
+own_texts false z last es fs n (c ∷ cs) (u ∷ us) (x ∷ xs) strict (ms, one, others) (text, rest) =
+    (by x text, own_texts false z last ms fs (suc n) cs us xs strict others rest)
+  where
+    by : (x : Option TableText) → IfSome x (IsTextOf c) → IfSome x (IsMade (line_pieces 1 u))
+    by None is = tt
+    by (Some text) is = is u one.0
+
+pub set_beside : (dumps : List Dump) (options : Options) (x : TableSet) (texts : List (Option TableText))
+    → options.any_run ≡ false → IsLoaded dumps options x
+    → AllZip (λ code text. IfSome text (IsTextOf code)) (table_codes x.tables.items) texts
+    → list_all is_some texts ≡ true → HasTexts dumps options x texts
+set_beside dumps options x texts strict (trees, from) own each =
+    let has = from.sound.2.holds in
+    let read = seen_so _ _ _ _ _ _ _ _ _ _ has.tables has.trees from.sound.1.loads.read in (
+      trees,
+      (from, all_told _ _ _ _ _ _ x.tables.items trees texts read each (own_texts _ _ _ _ _ _ (table_codes x.tables.items) trees texts strict read own)),
     )

@@ -4,3 +4,4 @@ pub mod Endings
 pub mod Checks
 pub mod Refusals
 pub mod Told
+pub mod Beside

@@ -9,7 +9,7 @@ use crate::faults::RunFault;
 use crate::options::Options;
 use crate::running::{print_listing, print_trials};
 use crate::texts::Texts;
-use crate::told::load_texts;
+use crate::told::load_texts_alone;
 use crate::trials::{Trials, Tried};
 use acpi_tables::Dump;
 use aml_text::{Tables, body_levels};
@@ -36,7 +36,7 @@ pub fn run_alone<O: Write, E: Write>(
     if check {
         return checks_alone(alloc, dumps, options, out, err);
     }
-    let (set, texts) = load_texts(alloc, dumps, options)?;
+    let (set, texts) = load_texts_alone(alloc, dumps, options)?;
     let tables = Tables {
         dumps,
         set: &set,

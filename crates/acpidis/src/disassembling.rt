@@ -40,7 +40,7 @@ fn refused_order(fault: TableFault) -> Refusal
 }
 
 /// The order of the definition blocks.
-fn order_in(alloc: Global, dumps: &[Dump], any_sum: bool) -> Result<Order, Refusal>
+pub(crate) fn order_in(alloc: Global, dumps: &[Dump], any_sum: bool) -> Result<Order, Refusal>
     ensures order { IfOk result (λ order. IsOrder dumps.now any_sum order.dsdt order.ssdts.items) }
     ensures only { IfOk result (λ order. (dsdt : ℕ) (ssdts : List ℕ) → IsOrder dumps.now any_sum dsdt ssdts →
         (dsdt ≡ order.dsdt) × (ssdts ≡ order.ssdts.items)) }

@@ -2,6 +2,7 @@
 #![tactic(auto)]
 
 mod alone;
+mod beside;
 mod bodies;
 mod check_lines;
 mod checking;

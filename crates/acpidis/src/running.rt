@@ -108,7 +108,7 @@ fn run_set<R: Threads + Wait + Sync, G: Gate + Sync, O: Write, E: Write>(
     if check {
         return run_checks(crew, dumps, options, out, err);
     }
-    let (set, texts) = load_texts(crew.alloc, dumps, options)?;
+    let (set, texts) = load_texts(crew, dumps, options)?;
     let tables = Tables {
         dumps,
         set: &set,
