@@ -6,7 +6,7 @@ ghost use Rattle.aml_text.specs.Rows.{piece_of, row_line};
 use crate::crew::Crew;
 use aml_pool::{FreeGate, Gate, NoMemory, Work, harvest};
 use aml_space::{Row, Space};
-use aml_text::{count_pieces, piece_text, short_rows};
+use aml_text::{all_rows, count_pieces, piece_text};
 use std::alloc::Global;
 use std::sync::Wait;
 use std::thread::Threads;
@@ -32,7 +32,7 @@ impl Work for Printing<'_, '_> {
     ghost gives = { λ w n text. text.items ≡ flat_map row_line (piece_of w.rows.now n) };
 
     fn work(&self, number: u32) -> Result<Vec<u8>, NoMemory> {
-        Ok(piece_text(self.alloc, self.rows, number as usize)?)
+        piece_text(self.alloc, self.rows, number as usize).ok_or(NoMemory)
     }
 }
 
@@ -49,7 +49,7 @@ pub(crate) fn row_texts<R: Threads + Wait + Sync, G: Gate + Sync>(
     if crew.workers == 1 || space.row_count() < LEAST_ROWS {
         return None;
     }
-    let rows = short_rows(crew.alloc, space)?;
+    let rows = all_rows(crew.alloc, space)?;
     let work = Printing {
         alloc: crew.alloc,
         rows: rows.as_slice(),

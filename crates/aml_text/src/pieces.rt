@@ -1,16 +1,15 @@
 //! The rows of a large namespace in pieces, each of which any worker prints by itself.
 #![tactic(auto, using(crate::proofs::RowLaws::printing))]
 
-ghost use Rattle.std.specs.Prelude.{◌≡◌, ◌<◌, ◌≤◌, ◌*◌, length, flat_map, IfOk, IfSome};
+ghost use Rattle.std.specs.Prelude.{◌≡◌, ◌<◌, ◌≤◌, ◌*◌, length, flat_map, IfSome};
 ghost use Rattle.std.specs.FinMap as map;
 ghost use Rattle.text_writer.specs.Prints.{Prints};
 ghost use Rattle.aml_text.specs.Rows.{piece_of, row_line};
 
 use crate::rows::{SMALL_WINDOW, is_deep, print_row};
-use aml_code::NoMemory;
 use aml_names::Seg;
 use aml_space::{Row, Space};
-use std::alloc::{AllocError, Global};
+use std::alloc::Global;
 use std::io::Write;
 use text_writer::{Out, Print, write_text_in};
 
@@ -20,19 +19,16 @@ const PIECE_ROWS: usize = 512;
 /// How many bytes of a piece wait to be written. The text of most is shorter.
 const ROOM: usize = 32_768;
 
-/// How many segments the paths of rows in pieces have at most, so that a line has at most some 200 bytes.
+/// How many segments the paths of rows in pieces have at most: so a line has at most some 200 bytes.
 const MOST_SEGMENTS: usize = 16;
 
-/// All rows of a namespace, in order. `None` where a path is long, or where there is no memory for them.
-pub fn short_rows<'a>(alloc: Global, space: &'a Space) -> Option<Vec<Row<'a>>>
+/// All rows of a namespace, in order. `None` where there is no memory for them.
+pub fn all_rows<'a>(alloc: Global, space: &'a Space) -> Option<Vec<Row<'a>>>
     ensures { IfSome result (λ rows. rows.items ≡ map.entries space.now.declarations) }
 {
     let mut rows = Vec::with_capacity(alloc, space.row_count()).ok()?;
     let mut left = space.in_order();
     'rows: while let Some(row) = left.next() {
-        if is_deep(&row, MOST_SEGMENTS) {
-            return None;
-        }
         rows.push(row).ok()?;
     }
     Some(rows)
@@ -70,14 +66,17 @@ impl Print for Piece<'_, '_> {
     }
 }
 
-/// The lines of a piece, by its number.
-pub fn piece_text(alloc: Global, rows: &[Row<'_>], number: usize) -> Result<Vec<u8>, NoMemory>
-    ensures { IfOk result (λ text. text.items ≡ flat_map row_line (piece_of rows.now number)) }
+/// The lines of a piece, by its number. `None` where a path is long, or where there is no memory for them.
+pub fn piece_text(alloc: Global, rows: &[Row<'_>], number: usize) -> Option<Vec<u8>>
+    ensures { IfSome result (λ text. text.items ≡ flat_map row_line (piece_of rows.now number)) }
 {
+    let piece = piece_at(rows, number);
+    if piece.iter().any(|row| is_deep(row, MOST_SEGMENTS)) {
+        return None;
+    }
     let mut text = Vec::new(alloc);
-    let piece = Piece(piece_at(rows, number));
-    match write_text_in(&mut text, &piece, &mut [0; ROOM]) {
-        Ok(()) => Ok(text),
-        Err(_) => Err(AllocError),
+    match write_text_in(&mut text, &Piece(piece), &mut [0; ROOM]) {
+        Ok(()) => Some(text),
+        Err(_) => None,
     }
 }
