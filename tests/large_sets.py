@@ -40,8 +40,9 @@ TAKEN_CUTS, READ_BODIES = 60, 880
 # The methods of the mixed order, and how many names are looked up that nothing declares. The step has no factor in common
 # with the number of methods, so that each comes once.
 MIXED, OTHERS, STEP = 20_000, 500, 7_919
-# So many rows are printed in pieces, by workers; of paths inside of so many Devices each row by the caller.
-ROWS, LONG = 8_192, 70
+# So many rows are printed in pieces, by workers; with a path inside of so many Devices by the caller. With so many
+# more they are printed by two harvests.
+ROWS, LONG, LATER = 8_192, 70, 30_000
 # The Aliases of a chain, of which each so manieth is called, and the methods inside a Scope of what is no scope
 CHAINED, STRIDE, INNER = 1_000, 50, 100
 
@@ -183,8 +184,11 @@ def rows_in_pieces():
     named, deep = [shapes.name(segment(number)) for number in range(ROWS)], device(b"LONG")
     for number in range(LONG):
         deep = device(segment(number), deep)
-    some = b"".join(b"\x06" + segment(number) + segment(ROWS + number) for number in range(INNER))
-    others = {"": b"", " and others": some, ", one of a long path": device(b"DEEP", deep) + some}
+    some, later = (
+        b"".join(b"\x06" + segment(number % ROWS) + segment(ROWS + number) for number in range(count))
+        for count in (INNER, LATER)
+    )
+    others = {"": b"", " and others": some, ", and many": later, ", one of a long path": device(b"DEEP", deep) + some}
     for what, more in others.items():
         yield from by_workers(f"rows in pieces{what}", b"".join(named) + more)
 
