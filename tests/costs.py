@@ -1,6 +1,6 @@
 #!/usr/bin/env python3
-"""Counts what a run costs where no contract speaks of it: writes, memory let go behind the last one, page faults, and the
-processor time of shapes that would take long without the ways that are there for them.
+"""Counts what a run costs where no contract speaks of it: writes, memory let go behind the last one, threads, page
+faults, and the processor time of shapes that would take long without the ways that are there for them.
 
 usage: tests/costs.py [PROGRAM]
 
@@ -22,6 +22,8 @@ LEAST_WRITE = 32_768
 MOST_FREED = 100
 # A run touches few pages that a program doesn't touch which only says its version. 128 are the large window of the rows.
 MOST_FAULTS = 80
+# The program has a thread, and three more read the bodies with it; as many once more print rows that are many.
+STARTS = {"a small set": (DEMO, 4), f"{METHODS} rows": ("set", 7)}
 # Seconds of processor time, several times what each takes, and less than without the steps upward (14 for the first).
 SHAPES = {
     "names used below 13,000 levels with another child": (lambda: shapes.upward_crowded(80_000, 13_000), 4),
@@ -55,6 +57,10 @@ def measure(program, room):
     outcome, (*_, writes, freed) = counted(room, shim_in(room), [program, "--workers", "1", folder])
     length = len(outcome.out)
     assert outcome.status == 0 and length > 100 * METHODS, (outcome.status, length)
+    for name, (place, most) in STARTS.items():
+        outcome, (_, starts, *_) = counted(room, shim_in(room), [program, "--workers", "4", room / place])
+        assert outcome.status == 0, (name, outcome)
+        yield f"threads by 4 workers: {name}", starts, most
     small, least = (run([program, word], 60) for word in (DEMO, "--version"))
     assert (small.status, least.status) == (0, 0), small
     yield f"writes of {length} bytes", writes, length // LEAST_WRITE

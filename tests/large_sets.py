@@ -40,6 +40,9 @@ TAKEN_CUTS, READ_BODIES = 60, 880
 # The methods of the mixed order, and how many names are looked up that nothing declares. The step has no factor in common
 # with the number of methods, so that each comes once.
 MIXED, OTHERS, STEP = 20_000, 500, 7_919
+# So many rows are printed in pieces, by workers; with a path inside of so many Devices by the caller. With so many
+# more they are printed by two harvests.
+ROWS, LONG, LATER = 8_192, 70, 30_000
 # The Aliases of a chain, of which each so manieth is called, and the methods inside a Scope of what is no scope
 CHAINED, STRIDE, INNER = 1_000, 50, 100
 
@@ -176,6 +179,20 @@ def scopes_of_no_scope():
     return by_workers("Scopes of what is no scope", code)
 
 
+def rows_in_pieces():
+    """Names as many as whole pieces have, others besides, Aliases of these, and one with a long path."""
+    named, deep = [shapes.name(segment(number)) for number in range(ROWS)], device(b"LONG")
+    for number in range(LONG):
+        deep = device(segment(number), deep)
+    some, later = (
+        b"".join(b"\x06" + segment(number % ROWS) + segment(ROWS + number) for number in range(count))
+        for count in (INNER, LATER)
+    )
+    others = {"": b"", " and others": some, ", and many": later, ", one of a long path": device(b"DEEP", deep) + some}
+    for what, more in others.items():
+        yield from by_workers(f"rows in pieces{what}", b"".join(named) + more)
+
+
 def of_methods(name, code, names, lines=()):
     """The listing and the check of a table of methods of these names, whose bodies have these lines."""
     rows = [f"  \\{it} Method 0\n" for it in names]
@@ -219,8 +236,8 @@ def the_most_methods():
 
 
 LARGE = (
-    bodies_of_two_bytes, what_has_a_limit, below_maybes, chains_of_aliases, scopes_of_no_scope, a_mixed_order,
-    a_long_body, parent_prefixes, the_most_methods,
+    bodies_of_two_bytes, what_has_a_limit, below_maybes, chains_of_aliases, scopes_of_no_scope, rows_in_pieces,
+    a_mixed_order, a_long_body, parent_prefixes, the_most_methods,
 )  # fmt: skip
 
 

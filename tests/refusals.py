@@ -5,10 +5,10 @@ of a thread.
     python3 tests/refusals.py [program]
 
 The tests of library_tests in `memory` run with each growth refused in turn, by itself and with all later ones, those in
-`starts` with each start. So does the program, over a set whose first method can't be read, and over one with code
-outside methods. Each thread that was started has to be joined, and a want is an answer only where something was
-refused. With the word program only the program runs so, as in ./test, in some seconds; the tests are proved and built
-first. It needs a C compiler, for refusals.c. The last line is 'N passed, N failed'.
+`starts` with each start. So does the program, over a set whose first method can't be read, over one with code outside
+methods, and over one of many rows. Each thread that was started has to be joined, and a want is an answer only where
+something was refused. With the word program only the program runs so, as in ./test, in some seconds; the tests are
+proved and built first. It needs a C compiler, for refusals.c. The last line is 'N passed, N failed'.
 """
 
 import concurrent.futures
@@ -20,14 +20,22 @@ import tempfile
 
 from tally import PROGRAM, TOP, Tally, shim_in, written
 from limits import WANTS, ended
-from made_aml import SETS, tables
+from made_aml import SETS, method, segment, tables
 from running import DONE, RAW
 
 CRATE = TOP / "crates/library_tests"
 TESTS = CRATE / "out/library_tests_tests"
 GROWTH, FROM, START = "REFUSE_GROWTH", "REFUSE_FROM", "REFUSE_START"
-FOLDERS = {"set": {**tables(*SETS["refused"]), "tables.map": b""}, "branches": tables(*SETS["branches"])}
-RUNS = ("--workers 1 set", "--workers 3 set", "--check set", "--externals counts set", "--any-run branches")
+# A body that can't be read, and as many names as workers print rows. Of the growths only the last are refused.
+MANY = method(b"AAAA", 0, b"\xA4BBBB\1") + b"".join(b"\x08" + segment(number) + b"\0" for number in range(8_200))
+LAST = 100
+FOLDERS = {
+    "set": {**tables(*SETS["refused"]), "tables.map": b""}, "branches": tables(*SETS["branches"]), "rows": tables(MANY),
+}  # fmt: skip
+RUNS = (
+    "--workers 1 set", "--workers 3 set", "--check set", "--externals counts set", "--any-run branches",
+    "--workers 3 rows",
+)  # fmt: skip
 
 
 def is_right(outcome, whole, how, is_refused):
@@ -49,7 +57,9 @@ def sweep(room, shim, how, command):
     """Refuses the calls of a command one after the other: how many of its answers are right, what is said, and whether
     all are. The last run is the first in which there is no call to refuse: one that is refused counts."""
     whole, shown = ended(*command, cwd=room), " ".join(map(str, command)).removeprefix(f"{TOP}/")
-    for number in itertools.count(1):
+    is_late = command[-1] == "rows" and how != START
+    first = counted(room, shim, command)[1][0] - LAST if is_late else 1
+    for number in itertools.count(first):
         outcome, counts = counted(room, shim, command, f"{how}={number}", "REFUSED=0")
         growths, starts, refused, joins, *_ = counts or [0, 0, 0, -1]
         calls = starts if how == START else growths
@@ -57,9 +67,9 @@ def sweep(room, shim, how, command):
         is_test = command[0] == TESTS and outcome.status == whole.status == DONE
         if joins != starts - refused or not (is_test or is_right(outcome, whole, how, calls >= number)):
             said = f"FAILED {how}={number} {shown}: status {outcome.status}, counts {counts}, {outcome.err}"
-            return number - 1, said, False
+            return number - first, said, False
         if calls < number:
-            return number, f"{how} {shown}: {calls}", True
+            return number - first + 1, f"{how} {shown}: {calls}", True
 
 
 def sweeps(is_program):

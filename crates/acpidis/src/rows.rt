@@ -6,7 +6,7 @@ ghost use Rattle.aml_text.specs.Rows.{piece_of, row_line};
 use crate::crew::Crew;
 use aml_pool::{FreeGate, Gate, NoMemory, Work, harvest};
 use aml_space::{Row, Space};
-use aml_text::{count_pieces, piece_text, short_rows};
+use aml_text::{count_pieces, piece_text, take_rows};
 use std::alloc::Global;
 use std::sync::Wait;
 use std::thread::Threads;
@@ -32,12 +32,36 @@ impl Work for Printing<'_, '_> {
     ghost gives = { λ w n text. text.items ≡ flat_map row_line (piece_of w.rows.now n) };
 
     fn work(&self, number: u32) -> Result<Vec<u8>, NoMemory> {
-        Ok(piece_text(self.alloc, self.rows, number as usize)?)
+        piece_text(self.alloc, self.rows, number as usize).ok_or(NoMemory)
     }
 }
 
-/// The lines of the rows of a namespace, in pieces. `None` where they are few or long, or where a thread or memory for
-/// them is refused: the caller prints them then.
+/// The lines of rows, in pieces. `None` where a path is long, or where a thread or memory is refused.
+fn print_pieces<R: Threads + Wait + Sync, G: Gate + Sync>(
+    crew: &Crew<'_, R, G>,
+    rows: &[Row<'_>],
+) -> Option<Vec<Vec<u8>>>
+    requires workers { (1 ≤ crew.now.workers) × (crew.now.workers ≤ 64) }
+    ensures { IfSome result (λ texts. flat_map (λ t. t.items) texts.items ≡ flat_map row_line rows.now) }
+{
+    let count = count_pieces(rows);
+    if count > MOST_PIECES {
+        return None;
+    }
+    let count = count as u32;
+    let work = Printing {
+        alloc: crew.alloc,
+        rows,
+    };
+    let workers = crew.workers.min(count);
+    match harvest(crew.rt, crew.alloc, workers, count, &work, &FreeGate) {
+        Ok(found) => Some(found.items),
+        Err(_) => None,
+    }
+}
+
+/// The lines of the rows of a namespace, in pieces. `None` where they are few or one is long, or where a thread or
+/// memory is refused: the caller prints them then.
 pub(crate) fn row_texts<R: Threads + Wait + Sync, G: Gate + Sync>(
     crew: &Crew<'_, R, G>,
     space: &Space,
@@ -49,19 +73,14 @@ pub(crate) fn row_texts<R: Threads + Wait + Sync, G: Gate + Sync>(
     if crew.workers == 1 || space.row_count() < LEAST_ROWS {
         return None;
     }
-    let rows = short_rows(crew.alloc, space)?;
-    let work = Printing {
-        alloc: crew.alloc,
-        rows: rows.as_slice(),
-    };
-    let count = count_pieces(work.rows);
-    if count > MOST_PIECES {
+    let mut texts = Vec::new(crew.alloc);
+    let mut left = space.in_order();
+    'rows: while let Some(rows) = take_rows(crew.alloc, &mut left) {
+        let mut more = print_pieces(crew, rows.as_slice())?;
+        texts.append(&mut more).ok()?;
+    }
+    if left.next().is_some() {
         return None;
     }
-    let count = count as u32;
-    let workers = crew.workers.min(count);
-    match harvest(crew.rt, crew.alloc, workers, count, &work, &FreeGate) {
-        Ok(found) => Some(found.items),
-        Err(_) => None,
-    }
+    Some(texts)
 }

@@ -1,17 +1,10 @@
-use Rattle.acpidis.proofs.Common.{arith, ap, ◌∙◌, flat_map, param_sync, arg_sync}
-use denote.Exit.{no}
-use Rattle.aml_text.specs.Rows.{row_line}
-use Rattle.aml_text.proofs.PieceLaws.{pieces_are}
-use Rattle.acpidis.proofs.Sharing.{printing_sync}
+use Rattle.acpidis.proofs.Common.{ap, sym, ◌∙◌}
+use Rattle.std.specs.Prelude.{is_some, slice_get}
+use Rattle.aml_text.proofs.PieceLaws.{pieces_all}
 use Rattle.acpidis.proofs.rows.row_texts.Goals as goal
 
-pub harvest-requires-sync-W : goal.harvest-requires-sync-W
-harvest-requires-sync-W g c κs within = param_sync 1 _ (arg_sync _ no _ (printing_sync _ _))
-
-pub returns-in-Ok : goal.returns-in-Ok
-returns-in-Ok g c =
-    let texts = c.in-Ok.found.items.items in
-    pieces_are c.as_slice.result.now texts
-    (omega (arith, c.in-Ok.ensures.results.items_len, c.count_pieces-count.ensures, c.if-count-gt-MOST_PIECES.false))
-    c.in-Ok.ensures.results.results
-    ∙ ap (flat_map row_line) (c.as_slice.ensures.value ∙ c.in_ok-rows.ensures)
+pub returns : goal.returns
+returns g c =
+    pieces_all _ c.rows.left c.rows.texts.items c.rows.invariant
+    (ap (λ rows. is_some (slice_get rows 0)) (sym c.in_default.ensures.none) ∙ ap is_some (sym c.next.ensures.row)
+    ∙ sym c.is_some.ensures ∙ c.if-is_some.false)
