@@ -22,8 +22,9 @@ LEAST_WRITE = 32_768
 MOST_FREED = 100
 # A run touches few pages that a program doesn't touch which only says its version. 128 are the large window of the rows.
 MOST_FAULTS = 80
-# The program has a thread, and three more read the bodies with it; as many once more print rows that are many.
-STARTS = {"a small set": (DEMO, 4), f"{METHODS} rows": ("set", 7)}
+# The program has a thread, and three more read the bodies with it; as many once more print rows that are many, and one
+# makes the text of a table that is long.
+STARTS = {"a small set": (DEMO, 4), f"{METHODS} rows": ("set", 8)}
 # Seconds of processor time, several times what each takes, and less than without the steps upward (14 for the first).
 SHAPES = {
     "names used below 13,000 levels with another child": (lambda: shapes.upward_crowded(80_000, 13_000), 4),

@@ -43,6 +43,8 @@ MIXED, OTHERS, STEP = 20_000, 500, 7_919
 # So many rows are printed in pieces, by workers; with a path inside of so many Devices by the caller. With so many
 # more they are printed by two harvests.
 ROWS, LONG, LATER = 8_192, 70, 30_000
+# So many tables of so many methods have more bytes than the caller reads alone.
+BESIDE, CALLING = 5, 1_000
 # The Aliases of a chain, of which each so manieth is called, and the methods inside a Scope of what is no scope
 CHAINED, STRIDE, INNER = 1_000, 50, 100
 
@@ -122,10 +124,10 @@ def what_has_a_limit():
         yield Trial(f"a table in {size} bytes", {BLOCK: table(b"DSDT", SETS["cuts"][0]).ljust(size, b"\0")})
 
 
-def by_workers(name, code):
-    """The listing and the check of a set with code outside methods, each by some numbers of workers."""
-    files = tables(code)
-    for options in LIST_RUNS, CHECK_RUNS:
+def by_workers(name, *codes, runs=(LIST_RUNS, CHECK_RUNS)):
+    """The listing and the check of a set, else with code outside methods, each by some numbers of workers."""
+    files = tables(*codes)
+    for options in runs:
         outcome = run(dumps_of(files), options)
         for workers in WORKERS:
             yield Trial(name, files, dataclasses.replace(options, workers=workers), outcome)
@@ -193,6 +195,20 @@ def rows_in_pieces():
         yield from by_workers(f"rows in pieces{what}", b"".join(named) + more)
 
 
+def texts_beside_the_load():
+    """Tables so long that workers make their texts beside the load, each with calls of the next one's methods; and one
+    more: whose text is too long to be kept, which can't be read, or which declares a path again."""
+    names = [[segment(table * CALLING + number) for number in range(CALLING)] for table in range(BESIDE)]
+    codes = [
+        b"".join(method(name, 1, b"\xa4" + called + b"\x68") for name, called in zip(own, names[table - 1]))
+        for table, own in enumerate(names)
+    ]
+    deep = shapes.around(500, lambda inner: device(b"DEEP", inner), b"")
+    others = {"": [], ", one deep": [deep], ", one cut off": [b"\x08AAA"], ", one again": [method(names[0][0], 1)]}
+    for what, more in others.items():
+        yield from by_workers(f"texts beside the load{what}", *codes, *more, runs=(LIST, CHECK))
+
+
 def of_methods(name, code, names, lines=()):
     """The listing and the check of a table of methods of these names, whose bodies have these lines."""
     rows = [f"  \\{it} Method 0\n" for it in names]
@@ -237,7 +253,7 @@ def the_most_methods():
 
 LARGE = (
     bodies_of_two_bytes, what_has_a_limit, below_maybes, chains_of_aliases, scopes_of_no_scope, rows_in_pieces,
-    a_mixed_order, a_long_body, parent_prefixes, the_most_methods,
+    texts_beside_the_load, a_mixed_order, a_long_body, parent_prefixes, the_most_methods,
 )  # fmt: skip
 
 
