@@ -138,8 +138,8 @@ def main():
         comparison.compare(folder, Options(any_run=words.any_run))
         comparison.compare(folder, Options(any_run=words.any_run, check=True))
     known = [{name: (folder / name).read_bytes() for name in file_names(folder)} for folder in words.folders]
-    maker = SetMaker(random.Random(words.seed), known, words.with_externals, words.any_run, words.deep)
-    maker = MutatedMaker(maker) if words.mutated else maker
+    make = MutatedMaker if words.mutated else SetMaker
+    maker = make(random.Random(words.seed), known, words.with_externals, words.any_run, words.deep)
     number, until = 0, time.monotonic() + words.seconds
     while number < words.sets if words.sets is not None else time.monotonic() < until:
         if comparison.differences >= MOST_DIFFERENCES:
