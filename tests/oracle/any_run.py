@@ -76,17 +76,13 @@ class Namespace:
     def arity(self, scope, unknown_zero=False):
         def count(declared, name):
             met = self.counts_met(scope, name, declared)
-            # What no declaration tells anything of has the count of the first External.
-            externals = (self.externals[path] for path in name.candidates(scope) if path in self.externals)
-            told = agreed(met) if met else next(externals, None)
-            given = self.given_count(scope, name) if told is None else told
+            # What no declaration tells anything of has the count of the first External, and else that given to the first.
+            first_in = lambda counts: next((counts[path] for path in name.candidates(scope) if path in counts), None)
+            told = agreed(met) if met else first_in(self.externals)
+            given = first_in(self.given) if told is None else told
             return 0 if given is None and not met and unknown_zero else given
 
         return count
-
-    def given_count(self, scope, name):
-        """The count that is given to the first candidate of a name that has one."""
-        return next((self.given[path] for path in name.candidates(scope) if path in self.given), None)
 
     def give(self, path, count):
         self.given[path] = max(self.given.get(path, 0), count)

@@ -11,7 +11,7 @@ from dumps import HEADER_LENGTH
 from folders import MAP_NAME
 from made_code import LEADS, LIKELY_BYTES, WIDEST, damaged, package_length
 from made_sets import BLOCKS, SetMaker, Trial, sealed
-from reading import EXTERNAL, METHOD, ROWS, Reader, Refused, is_name_lead
+from reading import EXTERNAL, METHOD, NAME_LEADS, ROWS, Reader, Refused
 
 SEGMENT = re.compile(rb"[A-Z_][A-Z0-9_]{3}")
 MOST_TERMS, LONGEST_TERM, MOST_CHANGES = 3000, 400, 4
@@ -186,7 +186,7 @@ class Mutator:
 def name_end(code, at):
     """Where the name at an offset ends, or the offset itself where none stands there."""
     with contextlib.suppress(Refused):
-        if at < len(code) and is_name_lead(code[at]):
+        if at < len(code) and code[at] in NAME_LEADS:
             return Reader(code).name(at, len(code))[1]
     return at
 

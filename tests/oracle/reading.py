@@ -47,10 +47,13 @@ FIELD_LISTS = {0x5B81, 0x5B86, 0x5B87}
 TARGETS = set(range(0x60, 0x6F)) | {0x5B31, 0x71, 0x83, 0x88}
 DATA = {0x00, 0x01, 0xFF, 0x5B30, 0x0A, 0x0B, 0x0C, 0x0D, 0x0E, 0x11, 0x12, 0x13}
 KINDS = {
-    0x08: "Name", 0x5B01: "Mutex", 0x5B02: "Event", 0x5B80: "Region", 0x5B88: "DataRegion", 0x5B82: "Device", 0x5B83: "Processor",
-    0x5B84: "PowerResource", 0x5B85: "ThermalZone", 0x5B13: "BufferField", 0x8A: "BufferField", 0x8B: "BufferField",
-    0x8C: "BufferField", 0x8D: "BufferField", 0x8F: "BufferField",
+    0x08: "Name", 0x5B01: "Mutex", 0x5B02: "Event", 0x5B80: "Region", 0x5B88: "DataRegion", 0x5B82: "Device",
+    0x5B83: "Processor", 0x5B84: "PowerResource", 0x5B85: "ThermalZone",
+    **dict.fromkeys((0x5B13, 0x8A, 0x8B, 0x8C, 0x8D, 0x8F), "BufferField"),
 }
+# The bytes that a segment may begin with, and a name
+LETTERS = {*b"ABCDEFGHIJKLMNOPQRSTUVWXYZ_"}
+NAME_LEADS = LETTERS | {*b"\\^./"}
 
 
 class Name(namedtuple("Name", "root ups segs")):
@@ -102,14 +105,6 @@ class Op:
         return []
 
 
-def is_lead_char(byte):
-    return 0x41 <= byte <= 0x5A or byte == 0x5F
-
-
-def is_name_lead(byte):
-    return is_lead_char(byte) or byte in (0x5C, 0x5E, 0x2E, 0x2F)
-
-
 @dataclass
 class Reader:
     """Reads one piece of code. A table's has no `arity`; a body's says how many arguments a name takes, by the paths that
@@ -145,13 +140,12 @@ class Reader:
     def segment(self, at, end):
         for n in range(4):
             byte = self.byte(at + n, end)
-            if not (is_lead_char(byte) or n and 0x30 <= byte <= 0x39):
+            if not (byte in LETTERS or n and 0x30 <= byte <= 0x39):
                 raise Refused("BadName", at + n)
         return self.code[at:at + 4].decode()
 
     def name(self, at, end):
-        root = self.byte(at, end) == 0x5C
-        ups = 0
+        root, ups = self.byte(at, end) == 0x5C, 0
         at += root
         while not root and self.byte(at, end) == 0x5E:
             ups, at = ups + 1, at + 1
@@ -185,7 +179,7 @@ class Reader:
         lead = self.byte(at, end)
         if level > MOST_LEVELS:
             raise Refused("TooDeep", at)
-        if is_name_lead(lead):
+        if lead in NAME_LEADS:
             if position in ("module", "guard"):
                 raise Refused("ModuleCode", at)
             return self.named(at, end, position, level)
@@ -297,7 +291,7 @@ class Reader:
             if level > MOST_LEVELS:
                 raise Refused("TooDeep", at)
             return self.operation(at, BUFFER, at + 1, end, "T", level)
-        if lead != 0x00 and not is_name_lead(lead):
+        if lead != 0x00 and lead not in NAME_LEADS:
             raise Refused("BadName", at)
         name, at = self.segmented(at, end)
         return Named(name, []), at
