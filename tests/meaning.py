@@ -17,7 +17,7 @@ import itertools
 import re
 import sys
 
-from tally import TOP, Tally, tables_in
+from tally import TOP, Tally, first_difference, tables_in
 
 PAGE = TOP / "docs/meaning.md"
 HEAD = TOP / "tests/meaning_words.md"
@@ -224,17 +224,9 @@ def topmost_first(roots, parts_of):
 
 def in_groups(definitions):
     """Definitions with those of a group together, as they stand in their file, and each group before what it is made of."""
-    parted = set()
-    while True:
-        key = lambda it: it if it.group in parted else it.group
-        groups = {key(it): [d for d in it.file.definitions if d in definitions and key(d) == key(it)] for it in definitions}
-        uses = lambda group: [key(used) for it in groups[group] for used in it.uses if used in definitions and key(used) != group]
-        order = [it for group in topmost_first(list(groups), uses) for it in groups[group]]
-        # Groups that are made of each other can't stay together.
-        late = {it.group for number, it in enumerate(order) for used in it.uses if used in order[:number] and used.group != it.group}
-        if not late - parted:
-            return order
-        parted |= late
+    groups = {it.group: [d for d in it.file.definitions if d in definitions and d.group == it.group] for it in definitions}
+    uses = lambda group: [used.group for it in groups[group] for used in it.uses if used in definitions]
+    return [it for group in topmost_first(list(groups), uses) for it in groups[group]]
 
 
 class Page:
@@ -362,8 +354,7 @@ def main():
     if "--write" in sys.argv:
         PAGE.write_text(text)
     there = PAGE.read_text() if PAGE.exists() else ""
-    lines = zip(text.split("\n"), there.split("\n"))
-    other = next((f"{number}: {here}" for number, (here, old) in enumerate(lines, 1) if here != old), "behind its last line")
+    other = first_difference(there.split("\n"), text.split("\n"))
     lost = [word for _, names in [*PARTS, ADDED, PRINTED] for word in sources.named(names)[1]]
     cells = re.findall(r"^\| (`.*?`) \|", head.split("\n## ")[-1], re.MULTILINE)
     words = {word for cell in cells for word in re.findall(r"`([^` ]+)[^`]*`", cell.replace("\\|", "|"))}
@@ -378,7 +369,7 @@ def main():
     checks.is_so(f"tests/meaning_words.md has what the page never uses: {unused}", not unused)
     for source, block in quoted or [("tests/meaning_words.md", "a quotation of a source")]:
         checks.is_so(f"tests/meaning_words.md: {source} has not\n{block}", block in (TOP / source).read_text())
-    checks.is_so(f"docs/meaning.md is made anew by --write; it differs in line {other}", there == text)
+    checks.is_so(f"docs/meaning.md is made anew by --write; it differs at {other}", there == text)
     checks.end()
 
 
