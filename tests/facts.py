@@ -240,9 +240,8 @@ def check_words(checks: Tally, room: pathlib.Path) -> None:
     checks.is_same("one that isn't there", run(room / "nowhere", out).stderr.count("nowhere"), 1)
     checks.is_same("facts in place of facts", (run(text, out).returncode, out.read_bytes() == kept[out]), (0, False))
     written(room / "listed/none/dumps", {"dsdt.dat": b"DSDT"})
-    said = f"acpidis-facts: no listing is in {str(room / 'listed/none')!r}: "
-    said += "a file `text` is one, in a folder of each machine\n"
-    checks.says("a folder without a listing", ["facts.py", room / "listed/none", room / "none"], 1, said)
+    said = f"no listing is in {str(room / 'listed/none')!r}: a file `text` is one, in a folder of each machine"
+    checks.refuses("a folder without a listing", ["facts.py", room / "listed/none", room / "none"], said)
     checks.fills_disk("facts.py", "--json", text)
     lines = [line for line in (TOP / "docs/facts.md").read_text().splitlines() if line.partition(" ")[0] in COLUMNS]
     checks.is_same("the columns of docs/facts.md", lines, list(columns_text()))

@@ -87,8 +87,7 @@ def check_texts(checks: Tally, room: pathlib.Path) -> None:
                 made = {"facts.py": room / "facts", "asl.py": room / "asl"}.get(script)
                 spoken.update([script] if printed.tell() or made and made.exists() else [])
             # It took its text, or said in a line why not.
-            is_line = said.count("\n") == 1 and len(said) < 500
-            is_word = is_line and said.startswith(f"acpidis-{script.removesuffix('.py')}: ")
+            is_word = re.fullmatch(rf"acpidis-{script.removesuffix('.py')}: .{{,480}}\n", said)
             is_good = status in (0, 3) or status in (1, 2) and is_word
             checks.is_so(f"{script}, {what}: status {status}, {said[:500]}", is_good)
             checks.is_so(f"{script}, {what}: {seconds:.1f} seconds", seconds < SECONDS)
@@ -108,17 +107,15 @@ def check_outputs(checks: Tally, room: pathlib.Path) -> None:
     }
     for what, said_there in lines.items():
         errors.write_text(said_there)
-        for script, more in (("page.py", []), ("facts.py", [room / "facts"])):
-            status, said, _ = run(script, "--errors", errors, text, *more)
-            is_named = "errors" in said or script == "facts.py"
-            wanted = (0,) if not said_there and script == "facts.py" else (1,)
-            checks.is_so(f"{script}, errors {what}: {status}, {said}", status in wanted and (status == 0 or is_named))
+        status, said, _ = run("page.py", "--errors", errors, text)
+        checks.is_so(f"page.py, errors {what}: {status}, {said}", status == 1 and "errors" in said)
+        status, said, _ = run("facts.py", "--errors", errors, text, room / "facts")
+        checks.is_same(f"facts.py, errors {what}: {said}", status, int(bool(said_there)))
     checks.fills_disk("page.py", text)
     checks.fills_disk("facts.py", "--json", text)
     for script in sorted(file.name for file in TOP.glob("examples/*.py")):
-        said = f"acpidis-{script.removesuffix('.py')}: cannot write: Bad file descriptor\n"
         how = {"stdout": None, "preexec_fn": lambda: os.close(1)}
-        checks.says(f"{script}, a closed output", [script, "--help"], 2, said, **how)
+        checks.refuses(f"{script}, a closed output", [script, "--help"], "cannot write: Bad file descriptor", 2, **how)
 
 
 def check_files(checks: Tally, room: pathlib.Path) -> None:
@@ -128,22 +125,19 @@ def check_files(checks: Tally, room: pathlib.Path) -> None:
     os.mkfifo(room / "fifo")
     bound = lambda: resource.setrlimit(resource.RLIMIT_FSIZE, (4096, 4096))
     for row, said in (line.split("  # ") for line in tables_in("outputs.txt")[0]):
-        script, *words = row.split()
         with open(room / "printed", "wb") as printed:
             how = {"stdout": printed, "cwd": room, "preexec_fn": bound, "env": {**os.environ, "PYTHONUNBUFFERED": "1"}}
-            checks.says(row, [script, *words], 2, f"acpidis-{script.removesuffix('.py')}: {said}\n", timeout=20, **how)
+            checks.refuses(row, row.split(), said, 2, timeout=20, **how)
     for place in ("/dev/stdin", "/proc/self/fd/0"):
-        said = f"acpidis-show: {place!r} declares no such path\n"
-        checks.says(f"a pipe as {place}", ["show.py", place, "AAAA"], 1, said, input=(room / "text").read_text())
+        words, said = ["show.py", place, "AAAA"], f"{place!r} declares no such path"
+        checks.refuses(f"a pipe as {place}", words, said, input=(room / "text").read_text())
     checks.is_same("what is left of the parts", sorted(os.listdir(room)), ["dump", "fifo", "new", "printed", "text"])
 
 
 def mutated(lines: list, dice: random.Random) -> str:
     lines = lines.copy() or [""]
     for _ in range(dice.randint(1, 3)):
-        at = dice.randrange(len(lines))
-        words = re.split(r"(\W)", lines[at])
-        kind = dice.randrange(6)
+        at, kind = dice.randrange(len(lines)), dice.randrange(6)
         if kind == 0:
             del lines[at]
         elif kind == 1:
@@ -151,6 +145,7 @@ def mutated(lines: list, dice: random.Random) -> str:
         elif kind == 2:
             lines[at] = dice.choice(lines)
         elif kind == 3:
+            words = re.split(r"(\W)", lines[at])
             words[dice.randrange(len(words))] = dice.choice(re.split(r"(\W)", dice.choice(lines)))
             lines[at] = "".join(words)
         else:
