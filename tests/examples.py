@@ -59,7 +59,6 @@ def make_sets(tries):
 
 
 def try_rows(tries):
-    """The rows of tests/examples.txt."""
     for name, rest in parts_in("examples.txt")[1:]:
         if name.startswith("fake "):
             tries.fake(name.removeprefix("fake "), rest)

@@ -77,7 +77,6 @@ class Read:
 
 
 def check_set(checks: Tally, what: str, folder: pathlib.Path, options: Options, outcome: Outcome) -> None:
-    """Compares the facts of a set."""
     checks.is_same(f"{what} is taken", outcome.status != REFUSED, True)
     fault, rows = facts_script.facts_of(outcome.out.encode(), outcome.err.encode())
     checks.is_same(f"the facts of {what}", fault, "")

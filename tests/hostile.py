@@ -34,7 +34,6 @@ SAMPLES = {"pages": PAGES_FILES, "hostile": HOSTILE_FILES, "runs": RUNS_FILES, *
 
 
 def head_of(file: str, signature: str, revision: int = 2) -> str:
-    """The line of a table."""
     names = f'Table "{file}" "{signature}" Length 67 Revision {revision} Oem "TEST  " "EXAMPLE "'
     return f'{names} 00000001 Creator "TEST" 00000001\n'
 

@@ -199,7 +199,6 @@ class Sources:
         items += [item] if item not in items else []
 
     def types_in(self, it):
-        """The types that a type is made of."""
         for name in [name for name in it.words() if name != it.name]:
             form = rf"^(?:pub )?use (\w+)::(?:\w+::)*(?:\{{[^}}]*\b{name}\b[^}}]*\}}|{name};)"
             crates = [it.crate, *re.findall(form, it.uses, re.MULTILINE), *sorted(crate for crate, n in self.types if n == name)]

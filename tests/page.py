@@ -50,7 +50,6 @@ class Checks(Tally):
         return self.says("status and errors of a page", ["page.py", "--errors", errors, *words, listing], 0)
 
     def check_set(self, what: str, folder: pathlib.Path, options: Options, outcome: Outcome) -> Read:
-        """Checks the page of a set."""
         self.is_same(f"{what} is taken", outcome.status != REFUSED, True)
         read = read_page(self.page(outcome))
         self.is_same(f"the names of {what}", first_difference(read.told(), Teller(folder, options).told), None)

@@ -245,7 +245,6 @@ LARGE = {4: 2, 16: 5}
 
 
 def page_of(checks: Tally, name: str, text: str, *words: object) -> pathlib.Path:
-    """The page of a listing."""
     made = checks.run("page.py", *words, checks.text(name, text), stderr=None, check=True)
     return checks.text(f"{name}.html", made.stdout)
 

@@ -22,8 +22,6 @@ def text_of(element: Element) -> str:
 
 
 class Tree(HTMLParser):
-    """Makes the elements of a page."""
-
     def __init__(self) -> None:
         super().__init__()
         self.builder, self.open = TreeBuilder(), []

@@ -118,7 +118,6 @@ def section(manual, name):
 
 class Checks(Tally):
     def check_commands(self, page, is_installed):
-        """Each command of a page, in its order."""
         commands = list(commands_of(page))
         self.is_so(f"{page}: it has no command", commands)
         with tempfile.TemporaryDirectory() as room:

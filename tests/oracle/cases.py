@@ -136,7 +136,6 @@ def shown(answer):
 
 
 def declaration_of(words):
-    """The name and the kind of a declaration."""
     path, word, *more = words.split()
     if word in ("Alias", "OpenAlias"):
         return name_of(path), ("Alias", path_of(more[0]), word == "OpenAlias")

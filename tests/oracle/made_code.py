@@ -150,7 +150,6 @@ class Maker(Chancy):
         return self.spelled(Name(prefix == "\\", prefix.count("^"), segs))
 
     def new_name(self, inside, count=0):
-        """A name to be declared."""
         if self.is_strange(inside):
             return self.strange_name()
         name = self.fresh_name(inside)
@@ -190,7 +189,6 @@ class Maker(Chancy):
         return self.chance.choice(names or [self.root_name(path)])
 
     def scope_name(self):
-        """The name of the path that a Scope opens."""
         self.opened = self.scope if self.chance.random() < 0.2 else self.chance.choice(list(self.known))
         if self.is_strange("table"):
             return self.strange_name()
@@ -242,7 +240,6 @@ class Maker(Chancy):
         return code
 
     def body(self, path):
-        """The body of the method of this path."""
         scope, self.scope, self.locals = self.scope, path, []
         code = self.statements(2)
         self.scope = scope

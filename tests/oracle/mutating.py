@@ -241,7 +241,6 @@ class MutatedMaker(SetMaker):
                     self.terms[self.chance.randrange(MOST_TERMS)] = term
 
     def mutated(self, files):
-        """The files with one change."""
         names, codes = blocks_of(files)
         if not names or self.chance.random() < 0.08:
             return self.chance.choice(self.ways)(files, self.chance.choice(list(files))) if files else {}

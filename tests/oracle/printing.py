@@ -8,7 +8,6 @@ UNIT_WORDS = {"access": "Access", "extended": "ExtendedAccess"}
 
 
 def quoted(text):
-    """Bytes in double quotes."""
     plain = (chr(byte) if 0x20 <= byte <= 0x7E and byte not in b'"\\' else f"\\x{byte:02X}" for byte in text)
     return '"' + "".join(plain) + '"'
 
