@@ -29,14 +29,10 @@ BOUNDS, WIDEST = (64, 1 << 12, 1 << 20, 1 << 28), 4
 ARGUMENT_COUNTS = [0, 0, 0, 1, 1, 2, 2, 3, 7]
 
 
-def prefix_of(name):
-    return b"\\" if name.root else b"^" * name.ups
-
-
-def shortest(name):
-    """The bytes of a name, in the shortest form that it can have."""
-    lead = {0: b"\0", 1: b"", 2: b"."}.get(len(name.segs), b"/%c" % len(name.segs))
-    return prefix_of(name) + lead + "".join(name.segs).encode()
+def shortest(name, is_multi=False):
+    """The bytes of a name, in the shortest form that it can have, or in the one for many segments."""
+    prefix, short = b"\\" if name.root else b"^" * name.ups, {} if is_multi else {0: b"\0", 1: b"", 2: b"."}
+    return prefix + short.get(len(name.segs), b"/%c" % len(name.segs)) + "".join(name.segs).encode()
 
 
 def package_length(content, least_width):
@@ -64,6 +60,8 @@ class Maker(Chancy):
     path of the last name that was declared or looked up. `strange_terms` and `strange_calls` are the shares of what may not be
     lawful, outside the methods and in their bodies. Where `segments` isn't 0, the tables' terms stand in a scope of so many.
     """
+
+    BITS = range(300)
 
     def __init__(self, chance, gives=False, segments=0):
         self.chance, self.gives, self.given, self.segments = chance, gives, {}, segments
@@ -101,13 +99,11 @@ class Maker(Chancy):
     def late_method(self, path, count):
         """The declaration of a method that the set calls; seldom it is an External, or missing, or given."""
         name, how = self.spelled(self.root_name(path)), self.chance.random()
-        if self.gives and self.chance.random() < 0.4:
+        if self.gives and self.happens(0.4):
             self.given[path] = count
             return b""
-        if how < 0.03:
-            return b""
         if how < 0.15:
-            return b"\x15" + name + b"\x08" + bytes([count])
+            return b"" if how < 0.03 else b"\x15" + name + b"\x08" + bytes([count])
         return self.method(name, path, count)
 
     def method(self, name, path, count):
@@ -127,16 +123,14 @@ class Maker(Chancy):
         return opcode + self.length(len(content)) + content
 
     def bits(self):
-        bits = self.chance.randrange(300)
+        bits = self.chance.choice(self.BITS)
         return bytes([bits]) if bits < 64 else bytes([0x40 | bits & 15, bits >> 4])
 
     # ---- names
 
     def spelled(self, name):
         """The bytes of a name, in one of the forms that it can have."""
-        if len(name.segs) in (1, 2) and self.chance.random() >= 0.85:
-            return prefix_of(name) + b"/%c" % len(name.segs) + "".join(name.segs).encode()
-        return shortest(name)
+        return shortest(name, is_multi=len(name.segs) in (1, 2) and not self.happens(0.85))
 
     def fresh_segment(self):
         self.fresh_count += 1
@@ -202,7 +196,7 @@ class Maker(Chancy):
 
     def any_name(self):
         """A name of which nothing is asked but that it has a segment."""
-        if self.chance.random() < 0.2:
+        if self.happens(0.2):
             return self.strange_name((1, 2, 3))
         return self.name_to(self.chance.choice([path for path in self.known if path]))
 
@@ -324,10 +318,8 @@ class Maker(Chancy):
 
     def target(self, depth, inside):
         kind = self.chance.random()
-        if kind < 0.3:
-            return b"\0"
         if kind < 0.6:
-            return self.any_name()
+            return b"\0" if kind < 0.3 else self.any_name()
         return self.operation(self.chance.choice(TARGETS if depth < MOST_DEPTH else PLAIN_TARGETS), depth, inside)
 
     def data(self, depth, inside):

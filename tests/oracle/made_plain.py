@@ -31,6 +31,8 @@ DESCRIPTORS = list(map(bytes.fromhex, (
 class PlainMaker(Maker):
     """Makes the AML of one set whose text ASL has."""
 
+    BITS = [it for it in range(300) if it != 63]
+
     def __init__(self, chance):
         super().__init__(chance)
         self.strange_terms = self.strange_calls = 0
@@ -44,10 +46,6 @@ class PlainMaker(Maker):
 
     def length(self, size):
         return package_length(size, 1)
-
-    def bits(self):
-        bits = self.chance.choice([it for it in range(300) if it != 63])
-        return bytes([bits]) if bits < 63 else bytes([0x40 | bits & 15, bits >> 4])
 
     def spelled(self, name):
         return shortest(name)

@@ -23,6 +23,8 @@ SCOPES = [(), *PATHS, ("_SB_", "AAAA", "AAAA")]
 NAMES = [Name(False, 0, [one]) for one in SEGMENTS[:3]] + [Name(True, 0, ["_SB_", "AAAA"]), Name(False, 1, ["BBBB"])]
 LOCALS = [(), {("AAAA",)}, {("_SB_", "BBBB")}]
 MOST_MAYBES, MOST_OPEN = 7, 1
+# What the kind of an open Alias has behind its target
+IS_OPEN = (True,)
 
 
 def made_declarations(chance):
@@ -34,12 +36,8 @@ def made_declarations(chance):
         is_open = opens < MOST_OPEN and chance.random() < 0.3
         kinds = [("Name",), ("Alias", chance.choice(PATHS), is_open), *(("Method", count) for count in (0, 1, 1, 2))]
         made.append((chance.choice(PATHS), chance.choice(kinds), is_sure))
-        opens += is_open_alias(made[-1][1])
+        opens += made[-1][1][2:] == IS_OPEN
     return made
-
-
-def is_open_alias(kind):
-    return kind[0] == "Alias" and kind[2]
 
 
 def space_of(declarations, externals):
@@ -56,7 +54,7 @@ def runs_of(declarations):
     out."""
     kept = []
     for _, kind, is_sure in declarations:
-        aims = [("Alias", path) for path in PATHS] if is_open_alias(kind) else [kind[:2]]
+        aims = [("Alias", path) for path in PATHS] if kind[2:] == IS_OPEN else [kind[:2]]
         kept.append(aims if is_sure else [None, *aims])
     for kinds in itertools.product(*kept):
         run = {}
