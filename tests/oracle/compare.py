@@ -16,7 +16,6 @@ said how the sets end. The same seed makes the same sets.
 
 import collections
 import contextlib
-import dataclasses
 import os
 import pathlib
 import random
@@ -75,8 +74,8 @@ class Comparison:
         self.sets += 1
         self.count(wanted)
         if options.externals is not None and wanted.status != REFUSED:
-            self.met["changed by externals"] += wanted != run_folder(folder, dataclasses.replace(options, externals=None))
-        runs = [dataclasses.replace(options, workers=it) for it in self.workers or [options.workers]]
+            self.met["changed by externals"] += wanted != run_folder(folder, options._replace(externals=None))
+        runs = [options._replace(workers=it) for it in self.workers or [options.workers]]
         for asked in runs if self.program else []:
             got, much = measured_run(self.program, folder, asked)
             difference = difference_of(got, wanted) or much
@@ -100,7 +99,7 @@ def kept_words(folder, options):
     room = pathlib.Path(tempfile.mkdtemp())
     kept = shutil.copytree(folder, room / FOLDER)
     if options.externals is not None and os.path.exists(options.externals):
-        options = dataclasses.replace(options, externals=str(shutil.copy(options.externals, room / EXTERNALS)))
+        options = options._replace(externals=str(shutil.copy(options.externals, room / EXTERNALS)))
     return [*options.words(), str(kept)]
 
 
@@ -112,7 +111,7 @@ def laid(trial):
         written(folder, trial.files)
         if trial.externals is not None:
             counts.write_bytes(trial.externals)
-            options = dataclasses.replace(options, externals=str(counts))
+            options = options._replace(externals=str(counts))
         yield folder, options
 
 
