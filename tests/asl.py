@@ -193,10 +193,16 @@ class Checks(Tally):
         """What a table has at a path is put into a dump, which is read whole, and its listing has these lines more."""
         dump, before = file.read_bytes(), listed(file.parent, options)
         (self.room / "new.aml").write_bytes(made)
-        file.write_bytes(self.spliced(file, "new.aml", path))
-        same = listed(file.parent, [*options, "--check"])
-        self.is_so(f"{file}: {path}: {same}", " Differs" not in same and f'Check "{file.name}"' in same)
-        self.check_difference(f"{file}: {path}", before, listed(file.parent, options), lines)
+        file.write_bytes(self.says(f"splice {path}", [SPLICE, file, "new.aml", path], 0, b"", text=False))
+        checked = listed(file.parent, [*options, "--check"])
+        self.is_so(f"{file}: {path}: {checked}", " Differs" not in checked and f'Check "{file.name}"' in checked)
+        # They stand one behind the other, and one table has another length.
+        form, both = re.compile(r'^(Table "[^"]*" "[^"]*") Length \d+', re.M), (before, listed(file.parent, options))
+        before, after = (form.sub(r"\1", text).split("\n") for text in both)
+        same = len(os.path.commonprefix([before, after]))
+        new = after[same : same + len(lines)]
+        is_added = after == before[:same] + new + before[same:] and [it.strip() for it in new] == lines
+        self.is_so(f"{file}: {path}: only these lines more", is_added)
         file.write_bytes(dump)
 
     def added(self, name, dumps, options):
@@ -222,8 +228,7 @@ class Checks(Tally):
         self.says("--edit once more", [ASL, "--edit", "edit.text", "edited"], 0)
         what = "'edited/dsdt.dat.asl' is there, and may have been changed: remove it, or name another folder"
         self.refuses("without --edit", [ASL, "edit.text", "edited"], what, 2)
-        whole = (self.room / "edited/dsdt.dat.asl").read_text("ascii")
-        self.text("edited/dsdt.dat.asl", whole + "// changed\n")
+        self.text("edited/dsdt.dat.asl", (self.room / "edited/dsdt.dat.asl").read_text("ascii") + "// changed\n")
         self.refuses("--edit of what is changed", [ASL, "--edit", "edit.text", "edited"], what, 2)
         for source in (self.room / "edited").iterdir():
             self.is_so(f"{source.name} is compiled", compiled(source))
@@ -233,18 +238,6 @@ class Checks(Tally):
                 source.write_text(re.sub(r"(Method \([A-Z_]*, 1, .*\n)", rf"\g<1>{statement}\n", text), "ascii")
                 source.with_suffix(".aml").unlink(missing_ok=True)
                 self.is_same(f"{source.name} with {statement}", compiled(source) is not None, holds)
-
-    def spliced(self, *words):
-        return self.says(f"splice {words}", [SPLICE, *words], 0, b"", text=False)
-
-    def check_difference(self, what, before, after, lines):
-        """The second listing has these lines more, one behind the other, and another length of one table."""
-        form = re.compile(r'^(Table "[^"]*" "[^"]*") Length \d+', re.M)
-        before, after = (form.sub(r"\1", text).split("\n") for text in (before, after))
-        same = len(os.path.commonprefix([before, after]))
-        new = after[same : same + len(lines)]
-        is_added = after == before[:same] + new + before[same:] and [it.strip() for it in new] == lines
-        self.is_so(f"{what}: only these lines more", is_added)
 
     def check_grown(self):
         """Methods of made-up sets, each with so many more statements at its end."""
@@ -282,8 +275,8 @@ class Checks(Tally):
             said = f"splice.py: error: {file!r} is {'no name of a file' if file == '-' else 'DUMP'}: name another"
             self.is_same(f"splice {option} {file}", (ran.returncode, ran.stderr.splitlines()[-1]), (2, said))
         self.is_same("DUMP stays", (self.room / old).read_bytes(), files["old"])
-        paths = "\\DEV0.MET0", "dev0.nam0", "\\NAM1"
-        patched = self.spliced("--oem-revision", "--initrd", "acpi.cpio", old, new, *paths)
+        words = [SPLICE, "--oem-revision", "--initrd", "acpi.cpio", old, new, "\\DEV0.MET0", "dev0.nam0", "\\NAM1"]
+        patched = self.says("three paths", words, 0, b"", text=False)
         wanted = device(b"DEV0", b"\x08NAM0\x0A\x07", method(b"MET0", 1, NOOP)) + b"\x08NAM1\x0D1\x00" + twice
         head = bytearray(files["old"][:HEADER])
         head[24] += 1
@@ -295,8 +288,7 @@ class Checks(Tally):
             said = splice.spelled(1 << 28, 1)
         except splice.Refused as fault:
             said = str(fault)
-        wanted = "a package would be longer than a package length can say"
-        self.is_same("a length that no longer fits", said, wanted)
+        self.is_same("a length that no longer fits", said, "a package would be longer than a package length can say")
         (self.room / old).write_bytes(sealed(files["old"][:24] + b"\xFF" * 4 + files["old"][28:]))
         said = "the OEM revision can't be raised: it is FFFFFFFF"
         self.refuses("the last revision", [SPLICE, "--oem-revision", old, new, "NAM1"], said)
