@@ -323,7 +323,11 @@ class Checks(Tally):
             ("image", noise + dsdt + b"\xFF" * 100 + ssdt + oem + dsdt + bytes(77), one_by_one),
             ("wrong sum", wrong + ssdt, {"dsdt.dat": wrong, "ssdt.dat": ssdt}),
         ]:
-            self.check_folder(name, content, wanted)
+            (self.room / name).write_bytes(content)
+            shown = {file: "SSDT" if file == "ssdt2.dat" else data[:4].decode() for file, data in wanted.items()}
+            lines = "".join(f"{file} {shown[file]} {len(data)}\n" for file, data in wanted.items())
+            self.says(name, [UNPACK, name, f"{name}.d"], 0, "", lines)
+            self.is_same(f"{name}: files", files_in(self.room / f"{name}.d"), wanted)
         if ACPIXTRACT:
             place = written(self.room / "acpixtract", {})
             subprocess.run([ACPIXTRACT, "-a", self.room / "plain"], cwd=place, capture_output=True, check=False)
@@ -353,13 +357,6 @@ class Checks(Tally):
         (self.room / "claims").write_bytes(image)
         _, seconds = timed(self.run, UNPACK, "claims", "claims.d")
         self.is_so(f"an image of 1 MB that claims many tables: {seconds} s", seconds < 3)
-
-    def check_folder(self, name, content, wanted):
-        (self.room / name).write_bytes(content)
-        shown = {file: "SSDT" if file == "ssdt2.dat" else data[:4].decode() for file, data in wanted.items()}
-        lines = "".join(f"{file} {shown[file]} {len(data)}\n" for file, data in wanted.items())
-        self.says(name, [UNPACK, name, f"{name}.d"], 0, "", lines)
-        self.is_same(f"{name}: files", files_in(self.room / f"{name}.d"), wanted)
 
     def check_chain(self):
         """Addresses are written where they lead to the DSDT, and acpidis takes the folder."""

@@ -110,23 +110,19 @@ def place_at(file, text, at):
 def read_wrong_body(name, text, folder):
     """A wrong body from the text of its edit: lines `file: PATH`, and then pairs of `old: TEXT` and `new: TEXT`. It
     may change names in a file of answers too, where the wrong body gives a call of the right one another name."""
-    changes, places, file, old, sources = [], set(), None, None, {}
-    for line in text.split("\n"):
-        word, _, rest = line.partition(": ")
-        if word == "file":
-            file = rest.strip()
-            if not re.fullmatch(r"src/\S+\.rt|proofs/\S+/Answers\.antt", file):
-                sys.exit(f"{folder}: {name}: a wrong body stands in src/, and the names that it changes in a file of answers")
-        elif word == "old":
-            old = rest
-        elif line.startswith("new:") and file and old:
+    changes, places, file, sources = [], set(), None, {}
+    for path, old, new in re.findall(r"^file: (.*)|^old: (.*)\nnew:(?: (.*))?", text, re.M):
+        file = path.strip() or file
+        if not re.fullmatch(r"src/\S+\.rt|proofs/\S+/Answers\.antt", str(file)):
+            sys.exit(f"{folder}: {name}: a wrong body stands in src/, and the names that it changes in a file of answers")
+        if old:
             source = sources.get(file) or Path(folder, file).read_text()
             if source.count(old) != 1:
                 sys.exit(f"{folder}: {name}: its old text stands {source.count(old)} times in {file}, and not once")
-            changes.append((file, old, rest))
+            changes.append((file, old, new))
             if file.startswith("src/"):
                 places.add(place_at(file, source, source.index(old)))
-            sources[file], old = source.replace(old, rest), None
+            sources[file] = source.replace(old, new)
     return WrongBody(name, changes, places) if places else sys.exit(f"{folder}: {name}: it changes no body")
 
 
@@ -212,10 +208,10 @@ def add_copy(crate, lone, source, wrong, room):
     end = next(found.end for found in functions_of(file, beside) if found.place.name == it.place.name)
     end = beside.index("\n", end) + 1
     Path(room, file).write_text(f"{beside[:end]}\n{text}{beside[end:]}")
-    if os.path.isdir(f"{room}/proofs/{'/'.join(path)}"):
-        shutil.copytree(f"{room}/proofs/{'/'.join(path)}", f"{room}/proofs/{'/'.join(copied)}")
-    for proof in Path(room, "proofs", *copied).glob("*"):
-        below = f"Rattle.{crate}.proofs."
+    proofs, below = Path(room, "proofs"), f"Rattle.{crate}.proofs."
+    if proofs.joinpath(*path).is_dir():
+        shutil.copytree(proofs.joinpath(*path), proofs.joinpath(*copied))
+    for proof in proofs.joinpath(*copied).glob("*"):
         proof.write_text(proof.read_text().replace(f"{below}{'.'.join(path)}.", f"{below}{'.'.join(copied)}."))
 
 
