@@ -61,12 +61,14 @@ class Maker(Chancy):
     lawful, outside the methods and in their bodies. Where `segments` isn't 0, the tables' terms stand in a scope of so many.
     """
 
-    BITS = range(300)
+    # Counts of bits, the opcodes of values and of statements, the share of values that stand as deep as can be
+    BITS, USED, PLAIN_USED, STATEMENTS, DEEP = range(300), VALUES, PLAIN_VALUES, IN_BODIES, 0.0005
 
     def __init__(self, chance, gives=False, segments=0):
         self.chance, self.gives, self.given, self.segments = chance, gives, {}, segments
         self.strange_terms = chance.choices([0, 0.01, 0.1], [85, 10, 5])[0]
         self.strange_calls = chance.choices([0, 0.02, 0.2], [70, 20, 10])[0]
+        self.stray_elses = 0.1 * self.strange_calls
         self.scope, self.opened, self.fresh_count = (), (), 0
         self.known = {path: kind[1] if kind[0] == "Method" else 0 for path, kind in PREDEFINED.items()}
         self.locals = []
@@ -224,14 +226,18 @@ class Maker(Chancy):
     def statements(self, depth):
         code = b""
         for _ in range(self.chance.randrange(5)):
-            if self.chance.random() < 0.3:
-                code += self.value(depth, "body")
+            if self.happens(0.3):
+                code += self.lone_value(depth)
                 continue
-            opcode = self.chance.choice(IN_BODIES if depth < MOST_DEPTH else IN_DEEP_BODIES)
+            opcode = self.chance.choice(self.STATEMENTS if depth < MOST_DEPTH else IN_DEEP_BODIES)
             code += self.operation(opcode, depth, "body")
-            if self.chance.random() < (0.5 if opcode == IF else 0.1 * self.strange_calls):
+            share = 0.5 if opcode == IF else self.stray_elses
+            if share is not None and self.happens(share):
                 code += self.operation(ELSE, depth, "body")
         return code
+
+    def lone_value(self, depth):
+        return self.value(depth, "body")
 
     def body(self, path):
         scope, self.scope, self.locals = self.scope, path, []
@@ -309,12 +315,12 @@ class Maker(Chancy):
     # ---- values
 
     def value(self, depth, inside):
-        if self.chance.random() < 0.0005:
+        if self.DEEP and self.happens(self.DEEP):
             return b"\x92" * self.chance.randrange(MOST_LEVELS - 12, MOST_LEVELS + 3) + b"\x60"
         kind = self.chance.random() if depth < MOST_DEPTH else 1
         if kind < 0.35:
             return self.called(depth, inside)
-        return self.operation(self.chance.choice(VALUES if kind < 0.6 else PLAIN_VALUES), depth, inside)
+        return self.operation(self.chance.choice(self.USED if kind < 0.6 else self.PLAIN_USED), depth, inside)
 
     def target(self, depth, inside):
         kind = self.chance.random()
