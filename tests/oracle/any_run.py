@@ -96,10 +96,10 @@ class Namespace:
         found = (path for path in candidates if path in declared or self.kinds_of(path))
         return next(found, next((path for path in candidates if path in self.externals), None))
 
-    def find(self, scope, name, declared=()):
+    def find(self, scope, name):
         """Where a name leads in every run, or None."""
-        path, candidates = self.first(scope, name, declared), name.candidates(scope)
-        if path in declared or self.is_sure(path) or not self.kinds_of(path):
+        path, candidates = self.first(scope, name), name.candidates(scope)
+        if self.is_sure(path) or not self.kinds_of(path):
             return path
         return None if any(map(self.is_known, candidates[candidates.index(path) + 1:])) else path
 

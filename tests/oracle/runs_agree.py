@@ -12,10 +12,11 @@ The last line is 'N passed, N failed', by the lists; 150 names are asked of each
 import itertools
 import random
 
-from trying import asked, end
+from trying import asked
 from any_run import Namespace, agreed
 from loading import PREDEFINED, own_count, path_text
 from reading import Name
+from tally import Tally
 
 SEGMENTS = ["AAAA", "BBBB", "_OSI", "_SB_"]
 PATHS = [(one,) for one in SEGMENTS] + [("_SB_", "AAAA"), ("_SB_", "BBBB"), ("_SB_", "AAAA", "BBBB"), ("AAAA", "BBBB")]
@@ -99,17 +100,15 @@ def fails_of(declarations, externals):
 
 
 def main():
-    words = asked(__doc__, lists=200, seed=0)
-    chance, failed = random.Random(words.seed), 0
+    words, checks = asked(__doc__, lists=200, seed=0), Tally()
+    chance = random.Random(words.seed)
     for _ in range(words.lists):
         declarations = made_declarations(chance)
         # What Externals say of some paths
         counts = [(chance.choice(PATHS), chance.randrange(3)) for _ in range(chance.choice((0, 0, 1, 3)))]
-        fails = list(fails_of(declarations, counts))
-        failed += bool(fails)
-        for fail in fails[:1]:
-            print(f"FAILED {fail}")
-    end(words.lists - failed, failed)
+        fail = next(fails_of(declarations, counts), None)
+        checks.is_so(fail, not fail)
+    checks.end()
 
 
 if __name__ == "__main__":
