@@ -90,13 +90,8 @@ def called_from(functions, crate, below):
 
 def table():
     """The functions that the table has, each with its part."""
-    part = None
-    for line in TABLE.read_text().splitlines():
-        head = re.fullmatch(r"\[(\w+)\].*", line)
-        if head:
-            part = head[1]
-        elif line and not line.startswith("#"):
-            crate, _, names = line.partition(": ")
+    for part, lines in re.findall(r"^\[(\w+)\].*\n((?:(?!\[).*\n)*)", TABLE.read_text(), re.M):
+        for crate, names in re.findall(r"^(\w+): (.*)", lines, re.M):
             yield from ((part, f"{crate}::{name}") for name in names.split())
 
 
