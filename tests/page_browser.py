@@ -11,6 +11,7 @@ and in 5 seconds. It is no part of ./test. The last line is 'N passed, N failed'
 
 import argparse
 import base64
+import contextlib
 import itertools
 import json
 import os
@@ -62,10 +63,7 @@ class Browser:
 
     def receive(self) -> dict:
         while b"\0" not in self.rest:
-            piece = self.end.recv(1 << 16)
-            if not piece:
-                sys.exit("chromium ended")
-            self.rest += piece
+            self.rest += self.end.recv(1 << 16) or sys.exit("chromium ended")
         message, _, self.rest = self.rest.partition(b"\0")
         return json.loads(message)
 
@@ -120,10 +118,10 @@ class Browser:
 
     def open(self, url: str) -> float:
         """The seconds until the page is loaded and drawn."""
-        self.events = [event for event in self.events if event.get("method") != "Page.loadEventFired"]
-        started = time.monotonic()
+        loaded, started = "Page.loadEventFired", time.monotonic()
+        self.events = [event for event in self.events if event.get("method") != loaded]
         self.call("Page.navigate", url=url)
-        while not any(event.get("method") == "Page.loadEventFired" for event in self.events):
+        while not self.events_of(loaded):
             self.events.append(self.receive())
         self.settle()
         return time.monotonic() - started
@@ -194,9 +192,8 @@ def take_steps(browser: Browser, kind: str, picture: pathlib.Path | None, checks
 
 def look_at_page(browser: Browser, file: pathlib.Path, picture: pathlib.Path, checks: Tally) -> None:
     look(browser, "page", MOST_SECONDS_TO_OPEN, file, checks, picture)
-    url = file.as_uri()
     asked = [event["request"]["url"] for event in browser.events_of("Network.requestWillBeSent")]
-    checks.is_so(f"it asks for itself alone, not {asked}", {one.partition("#")[0] for one in asked} == {url})
+    checks.is_so(f"it asks for itself alone, not {asked}", {it.partition("#")[0] for it in asked} == {file.as_uri()})
     checks.is_so("it keeps no cookie", not browser.call("Network.getCookies")["cookies"])
 
 
@@ -253,8 +250,7 @@ def look_at_all(browser: Browser, words: argparse.Namespace, checks: Tally) -> N
     picture = words.picture or checks.room / "page.png"
     errors = ["--errors", words.errors.resolve()] if words.errors else []
     for given in words.listings:
-        page = page_of(checks, "text", given.read_text(), *errors)
-        look_at_page(browser, page, picture, checks)
+        look_at_page(browser, page_of(checks, "text", given.read_text(), *errors), picture, checks)
     if words.listings:
         return
     outcome = run_folder(written(checks.room / "set", HOSTILE_FILES), Options())
@@ -275,12 +271,8 @@ def main() -> None:
     if not shutil.which("chromium"):
         print("chromium is not there, so nothing is tried: on Debian, apt-get install chromium\n0 passed, 0 failed")
         return
-    with Tally() as checks:
-        browser = Browser(str(checks.room / "profile"))
-        try:
-            look_at_all(browser, words, checks)
-        finally:
-            browser.close()
+    with Tally() as checks, contextlib.closing(Browser(str(checks.room / "profile"))) as browser:
+        look_at_all(browser, words, checks)
 
 
 if __name__ == "__main__":
