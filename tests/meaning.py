@@ -24,6 +24,8 @@ HEAD = TOP / "tests/meaning_words.md"
 # The parts of the page, as that text says
 *PARTS, ADDED, PRINTED, (FAULTS, FAULT_TYPES) = (tuple(line.split(" | ")) for line in tables_in("meaning.txt")[0])
 FAULT_TYPES = FAULT_TYPES.split()
+# A line `use`: a module with another name, or names of it
+USE = re.compile(r"^use ([^\s{]+?)(?: as (\S+)|\.\{(.*)\})\n", re.M)
 LINES_A_MINUTE = 22
 ROWS_A_MINUTE = 40
 # So many lines of a definition, or more, that begin or end with ∷ are rows of a table.
@@ -41,18 +43,14 @@ class File:
 
     def __init__(self, path):
         self.crate, self.name = path.parts[-3], path.stem
-        self.imports, self.aliases, self.definitions = {}, {}, []
-        lines = path.read_text().split("\n")
-        uses = [line for line in lines if line.startswith("use ")]
-        for line in uses:
-            module, _, words = line[4:].partition(".{")
-            for word in words.rstrip("}").split(", ") if words else []:
-                self.imports[word.split(" as ")[-1]] = (module, word.split(" as ")[0])
-            if not words:
-                self.aliases[module.split(" as ")[1]] = module.split(" as ")[0]
-        self.groups = 0
+        self.imports, self.aliases, self.definitions, self.groups = {}, {}, [], 0
+        for module, alias, words in USE.findall(path.read_text()):
+            pairs = [word.partition(" as ") for word in words.split(", ") if word]
+            self.imports |= {other or name: (module, name) for name, _, other in pairs}
+            self.aliases |= {alias: module} if alias else {}
+        lines = USE.sub("", path.read_text()).split("\n")
         first = next(number for number, line in enumerate(lines) if not line.startswith("--"))
-        self.add([line for line in lines[first:] if line not in uses], [], (self, tuple(lines[:first])))
+        self.add(lines[first:], [], (self, tuple(lines[:first])))
 
     def add(self, lines, around, section):
         for block in paragraphs(lines, 2 if around else 0):
