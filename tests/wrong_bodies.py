@@ -15,14 +15,12 @@ There are three verdicts, each printed with its reason:
   wrong body wants another form.
 - PROVED: the contract lets the wrong body through. The run fails.
 
-A function is proved from its own body and the contracts of what it calls. So wrong bodies of different functions don't touch
-each other, and one check of a crate with all of them says of each function whether it is proved. For the same reason the bodies
-of the other functions and cycles are left out at first, with a hole for each proof, unless out/ has kept proofs of the crate. A
-further wrong body of one function stands in a copy of it, behind it, with a copy of its proofs. A method of a trait and a
-function of a cycle of calls have no copies: their wrong bodies are tried in different checks. What such checks don't refuse is
-tried with all bodies, and at last alone, as one is at once that stands in no function, over all functions of the crate. A table
-that one function alone names counts as a part of its body. One whose text can't be read is told so, and the others are tried
-without it.
+A function is proved from its own body and the contracts of what it calls. So one check of a crate with wrong bodies of
+different functions says of each whether it is proved, and the bodies of the others are left out at first, with a hole for
+each proof, unless out/ has kept proofs of the crate. A further wrong body of one function stands in a copy of it, but of a
+method of a trait or a function of a cycle of calls, whose wrong bodies are tried in different checks. What such checks don't
+refuse is tried with all bodies, and at last alone, as one is at once that stands in no function, over all functions of the
+crate. One whose text can't be read is told so, and the others are tried without it.
 
 What this file adds to `rt must-fail` is which bodies go together in a check, and whose goal was refused.
 """
