@@ -1,7 +1,7 @@
 """The text of terms, namespaces and definition blocks after docs/listing.md, line by line."""
 
 from loading import path_text
-from reading import METHOD, Name, Named, Nothing, Op
+from reading import METHOD, Name, Named, Op
 
 CONSTANTS = {0x0A, 0x0B, 0x0C, 0x0D, 0x0E}
 UNIT_WORDS = {"access": "Access", "extended": "ExtendedAccess"}
@@ -25,7 +25,7 @@ def hexadecimal(data):
 
 
 def inline(part):
-    if isinstance(part, Nothing):
+    if part is None:
         return ""
     if isinstance(part, Name):
         return str(part)

@@ -73,17 +73,13 @@ class Name(namedtuple("Name", "root ups segs")):
         return [] if path is None else [path]
 
 
-class Nothing:
-    """A target that isn't there."""
-
-
 # A name with its arguments
 Named = namedtuple("Named", "name args")
 
 
 @dataclass
 class Op:
-    """Parts are terms, names, bytes of a text, or pairs of a width and a number."""
+    """Parts are terms, names, bytes of a text, pairs of a width and a number, or None for a target that isn't there."""
 
     opcode: int
     parts: list
@@ -184,7 +180,7 @@ class Reader:
                 raise Refused("ModuleCode", at)
             return self.named(at, end, position, level)
         if position == "S" and lead == 0x00:
-            return Nothing(), at + 1
+            return None, at + 1
         opcode, rest = (0x5B00 | self.byte(at + 1, end), at + 2) if lead == 0x5B else (lead, at + 1)
         if opcode not in ROWS:
             raise Refused("UnknownOp", at)
