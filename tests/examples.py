@@ -75,7 +75,7 @@ class Tries(Tally):
         self.is_so("nothing is executed", not list(self.room.glob("**/bad")))
 
     def try_many_missing(self):
-        """Names in bodies of their own are tried together, in as many runs as one; those in one body end with a word."""
+        """Names in bodies of their own are tried together, in as many runs as one; of one body they end with a word."""
         names = [b"X%03d" % number for number in range(300)]
         many = b"".join(method(b"M" + name[1:], 0, b"\xa4" + name) for name in names)
         launched = subprocess.run([TOP / "acpidis", "--program"], capture_output=True, text=True, check=False)
