@@ -124,10 +124,10 @@ class Mutator:
 
     def change_term(self, code, layout):
         """A term is gone, stands there again and again, or is another one of the table."""
-        start, end = self.span(layout)
+        start, end = span = self.span(layout)
         how = self.chance.randrange(3)
         if how == 0:
-            return replaced(code, layout, Span(start, end), b"")
+            return replaced(code, layout, span, b"")
         if how == 1:
             return replaced(code, layout, Span(end, end), code[start:end] * self.chance.choice((1, 1, 2, 30)))
         return replaced(code, layout, self.span(layout), code[start:end])
@@ -153,9 +153,8 @@ class Mutator:
 
     def change_opcode(self, code, layout):
         start, _ = self.span(layout)
-        width = 2 if code[start:start + 1] == b"\x5b" else 1
-        span = Span(start, min(start + width, len(code)))
-        return replaced(code, layout, span, self.chance.choice(list(LEADS.values())))
+        end = min(start + (2 if code[start:start + 1] == b"\x5b" else 1), len(code))
+        return replaced(code, layout, Span(start, end), self.chance.choice(list(LEADS.values())))
 
     def change_flags(self, code, layout):
         """Another byte behind the name of a Method or an External, in which the count of arguments stands."""
