@@ -43,6 +43,12 @@ BUSY_SHARE = 0.6
 STOLEN_SHARE = 0.03
 DEVICES_OF_A_BUS = 16
 OUTERMOST = b"X000"
+HEAD = f"""![Seconds by set: acpidis with 1 and {MOST_WORKERS} workers, and iasl -d](docs/figures.svg)
+
+| Set | Bytes | `acpidis`, 1 worker | Of processors | {MOST_WORKERS} workers | Peak memory \
+| `iasl -d` | Its peak memory | Its status | Times as fast |
+|---|---|---|---|---|---|---|---|---|---|
+"""
 # The picture: seconds by set on a logarithmic axis
 WIDTH, LEFT, RIGHT = 860, 130, 110
 ABOVE, BAR, GAP, FOOT = 62, 15, 14, 44
@@ -122,19 +128,14 @@ def figures_of(name, make, words):
 
 
 def row(figures, limit):
-    alone, together, iasl = figures.alone, figures.together, figures.iasl
-
-    def seconds(answer):
-        if answer is None:
-            return f"no answer in {limit:g} s"
-        return f"{answer.seconds:.3f} s" if answer.seconds < 1 else f"{answer.seconds:.1f} s"
-
-    memory = lambda answer: f"{answer.peak / 1e6:,.0f} MB" if answer else ""
-    size, times = figures.size, ""
+    name, size, alone, together, iasl = figures
+    seconds = lambda it: f"{it.seconds:.{3 if it.seconds < 1 else 1}f} s" if it else f"no answer in {limit:g} s"
+    memory = lambda it: f"{it.peak / 1e6:,.0f} MB" if it else ""
+    times = ""
     if alone and together and iasl:
         times = f"{iasl.processor / max(alone.processor, 0.001):.1f}, {iasl.seconds / together.seconds:.1f}"
     cells = [
-        figures.name, f"{size / 1e6:.1f} MB" if size >= 1e5 else f"{size / 1e3:.1f} KB", seconds(alone),
+        name, f"{size / 1e6:.1f} MB" if size >= 1e5 else f"{size / 1e3:.1f} KB", seconds(alone),
         f"{alone.processor:.3f} s" if alone else "", seconds(together), memory(together), seconds(iasl), memory(iasl),
         str(iasl.status) if iasl else "", times,
     ]
@@ -145,11 +146,7 @@ def section(all_figures, asked, loads, stolen):
     processors = len(os.sched_getaffinity(0))
     shown = subprocess.run(["iasl", "-v"], capture_output=True, text=True, check=False).stdout
     compiler = " ".join(["iasl", *re.findall(r"version (\d+)", shown)[:1]])
-    text = f"![Seconds by set: acpidis with 1 and {MOST_WORKERS} workers, and iasl -d](docs/figures.svg)\n\n"
-    text += f"| Set | Bytes | `acpidis`, 1 worker | Of processors | {MOST_WORKERS} workers | Peak memory |"
-    text += " `iasl -d` | Its peak memory | Its status | Times as fast |\n"
-    text += "|---|---|---|---|---|---|---|---|---|---|\n"
-    text += "".join(row(figures, asked.seconds) for figures in all_figures)
+    text = HEAD + "".join(row(figures, asked.seconds) for figures in all_figures)
     text += f"\nThe last column has one worker by processor time, and {MOST_WORKERS} by the clock."
     text += f" Measured on {datetime.date.today()} beside {compiler}, the best of {asked.runs} runs,"
     text += f" on {processors} processors with a load of {min(loads):.1f} to {max(loads):.1f}."
@@ -174,28 +171,15 @@ def rectangle(x, y, width, height, colour, more=""):
     return f'<rect x="{x:.1f}" y="{y:.1f}" width="{width:.1f}" height="{height:.1f}" fill="{colour}"{more}/>\n'
 
 
-def short(seconds):
-    return f"{seconds * 1000:.0f} ms" if seconds < 1 else f"{seconds:.1f} s"
-
-
 def bar(y, answer, limit, colour):
     """One bar with its label; it has an outline alone where there was no answer."""
-    if answer is None:
-        width = across(limit) - LEFT
-        outline = f' stroke="{colour}" stroke-dasharray="4 3"'
-        label = text(LEFT + width + 5, y + 11, f"not in {limit:g} s")
-        return rectangle(LEFT, y, width, BAR - 2, PAPER, outline) + label
-    width = max(across(answer.seconds) - LEFT, 1)
-    return rectangle(LEFT, y, width, BAR - 2, colour) + text(LEFT + width + 5, y + 11, short(answer.seconds))
-
-
-def axis(bottom):
-    drawn = ""
-    for seconds in TICKS:
-        x = across(seconds)
-        drawn += f'<line x1="{x:.1f}" y1="{ABOVE - 6}" x2="{x:.1f}" y2="{bottom}" stroke="{GRID}"/>\n'
-        drawn += text(x, bottom + 16, f"{seconds * 1000:g} ms" if seconds < 0.99 else f"{seconds:.0f} s", "middle")
-    return drawn
+    outline, label = f' stroke="{colour}" stroke-dasharray="4 3"', f"not in {limit:g} s"
+    if answer:
+        limit, outline = answer.seconds, ""
+        label = f"{limit * 1000:.0f} ms" if limit < 1 else f"{limit:.1f} s"
+    width = max(across(limit) - LEFT, 1)
+    drawn = rectangle(LEFT, y, width, BAR - 2, colour if answer else PAPER, outline)
+    return drawn + text(LEFT + width + 5, y + 11, label)
 
 
 def picture(all_figures, limit):
@@ -210,12 +194,15 @@ def picture(all_figures, limit):
     for label, colour in zip(("acpidis, 1 worker", f"acpidis, {MOST_WORKERS} workers", "iasl -d"), COLOURS):
         drawn += rectangle(x, 34, 12, 12, colour) + text(x + 17, 44.5, label)
         x += 45 + 7 * len(label)
-    drawn += axis(bottom)
-    for number, figures in enumerate(all_figures):
+    for seconds in TICKS:
+        x = across(seconds)
+        drawn += f'<line x1="{x:.1f}" y1="{ABOVE - 6}" x2="{x:.1f}" y2="{bottom}" stroke="{GRID}"/>\n'
+        drawn += text(x, bottom + 16, f"{seconds * 1000:g} ms" if seconds < 0.99 else f"{seconds:.0f} s", "middle")
+    for number, (name, _, *answers) in enumerate(all_figures):
         y = ABOVE + number * group
-        drawn += text(LEFT - 10, y + group / 2 - 3, figures.name, "end")
-        for place, answer in enumerate((figures.alone, figures.together, figures.iasl)):
-            drawn += bar(y + place * BAR, answer, limit, COLOURS[place])
+        drawn += text(LEFT - 10, y + group / 2 - 3, name, "end")
+        for place, (answer, colour) in enumerate(zip(answers, COLOURS)):
+            drawn += bar(y + place * BAR, answer, limit, colour)
     return drawn + "</svg>\n"
 
 

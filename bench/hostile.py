@@ -30,7 +30,6 @@ LEAST_SECONDS = 0.1
 
 
 def printed_bytes(command, folder):
-    """How many bytes a run writes to standard output."""
     with subprocess.Popen(command, cwd=folder, stdout=subprocess.PIPE, stderr=subprocess.DEVNULL) as child:
         return sum(map(len, iter(lambda: child.stdout.read(1 << 20), b"")))
 

@@ -40,13 +40,6 @@ HEADER, MOST_GROWN, GROWN = 36, 70_000, 150
 NOOP = b"\xA3"
 
 
-class Checks(Tally):
-    same = told = 0
-
-
-# ---- whole sets
-
-
 def compiled(path):
     """What iasl makes of a file by the command on its first line; None where it makes nothing."""
     command = path.read_text("ascii").partition("\n")[0].removeprefix("// ").split()
@@ -55,46 +48,11 @@ def compiled(path):
     return made.read_bytes() if made.exists() else None
 
 
-def check_set(checks, name, dumps, options):
-    """Each block of a set's listing of which nothing is told compiles to its dump."""
-    outcome = run(dumps, options)
-    if outcome.status == REFUSED:
-        return
-    place = written(checks.room / name / "dumps", {dump.name: dump.data for dump in dumps})
-    text, out = checks.text(f"{name}/text", outcome.out), checks.room / name / "out"
-    ran = checks.run(ASL, "--tables", place, text, out)
-    told = {line.removeprefix("acpidis-asl: ").partition(": ")[0] for line in ran.stderr.splitlines()}
-    checks.is_so(f"{name}: {ran.stderr[-500:]}", ran.returncode in (0, 3) and "Traceback" not in ran.stderr)
-    made = sorted(out.iterdir(), key=lambda path: path.stat().st_mtime_ns)
-    files = dict(zip(re.findall(r'^DefinitionBlock \("(.*)"\) \{$', outcome.out, re.M), made))
-    data = {file_text(dump.name)[1:-1]: dump.data for dump in dumps}
-    for file, path in files.items():
-        checks.told += file in told
-        if IASL and file not in told:
-            checks.same += 1
-            # It has the bytes of the dump, but for its sum and its creator.
-            made, dump = compiled(path) or b"", data[file][: int.from_bytes(data[file][4:8], "little")]
-            same = (made[:9], made[10:28], made[HEADER:]) == (dump[:9], dump[10:28], dump[HEADER:])
-            checks.is_so(f"{name}: {file} again", same)
-
-
 def plain_set(seed):
     return tables(*PlainMaker(random.Random(seed)).tables())
 
 
-def check_sets(checks, count, folders):
-    jobs = [(name, dumps_of(files), Options(any_run=True)) for name, files in SAMPLES.items()]
-    jobs += [("demo", read_folder(DEMO), Options())]
-    jobs += [(f"plain{seed}", dumps_of(plain_set(seed)), Options()) for seed in range(count)]
-    jobs += [(f"of_{it.name}", read_folder(it), Options(any_run=True, any_sum=True)) for it in folders]
-    with concurrent.futures.ThreadPoolExecutor(os.cpu_count()) as pool:
-        list(pool.map(lambda job: check_set(checks, *job), jobs))
-    if IASL:
-        checks.is_so(f"most made-up tables are compiled: {checks.same} of {checks.same + checks.told}", checks.same >= count)
-
-
-# ---- what ASL hasn't got
-
+# What ASL hasn't got
 ROWS = ["\\FOO_ Method 1", "\\BAR_ Name", "\\DEV0 Device", "\\DEV0._STA Method 0"]
 SCOPED = "FOO_ (One)\n  }\n  Scope (FOO_) {", "FOO_ as a call, where nothing says that it is a method"
 WIDE = "0x1122334455667788"
@@ -126,334 +84,321 @@ def text_with(body, revision=2):
     return text_of(ROWS, [*lines, "  Method (_STA, 0, NotSerialized, 0) {", "  }", "}"], "a.dat", revision)
 
 
-def check_told(checks):
-    rows = [(body.replace("\\n", "\n    "), what, 9, 2) for body, what in BODIES]
-    rows += [(f"Field (REG0, 0x01) {{\n      {unit}\n    }}", what, 10, 2) for unit, what in UNITS]
-    wide = f"{WIDE} in a table of revision 1, whose integers have 4 bytes"
-    for at, (body, what, number, revision) in enumerate([*rows, (*SCOPED, 9, 2), (f"Store ({WIDE}, Local0)", wide, 9, 1)]):
-        text = checks.text("told.text", text_with(body, revision))
-        checks.says(body, [ASL, text, f"told{at}"], 3, f"acpidis-asl: a.dat: line {number} of the listing: {what}\n")
-
-
-def check_method(checks):
-    """Nothing is made of a raw method, of several, or of a path that isn't from the root; and iasl refuses a raw body."""
-    raw = checks.text("raw.text", text_with("Raw {A4}"))
-    for path, said in METHODS:
-        words = [ASL, "--method", path, raw, "method"]
-        checks.says(f"--method {path}", words, 1, f"acpidis-asl: {str(raw)!r}: {said}\n")
-    checks.is_so("no method is written", not (checks.room / "method").exists())
-    twice = checks.text("twice.text", WHOLE[:-2] + "  Method (FOO_, 0, NotSerialized, 0) {\n  }\n}\n")
-    said = "it declares \\FOO_ on the lines 8, 11: change the table as a whole, with --edit"
-    words = [ASL, "--method", "FOO_", twice, "method"]
-    checks.says("a method twice", words, 1, f"acpidis-asl: {str(twice)!r}: {said}\n")
-    for option in ("--edit",), ():
-        out = checks.room / f"raw{len(option)}"
-        checks.is_same("a raw body is told", checks.run(ASL, *option, raw, out).returncode, 3)
-        checks.is_so("iasl refuses a raw body", not IASL or not compiled(out / "a.dat.asl"))
-
-
-def check_misread(checks):
-    for content, what in MISREAD:
-        text = checks.text("misread.text", content)
-        for words in ([ASL, text, "misread"], [ASL, "--edit", text, "misread"]):
-            checks.says(content[-300:], words, 1, f"acpidis-asl: {str(text)!r}: {what}\n")
-    checks.is_so("nothing is written", not (checks.room / "misread").exists())
-    text.write_bytes(WHOLE.replace("\n", "\r\n").encode())
-    checks.says("lines as on Windows", [ASL, text, "windows"], 0)
-
-
-def check_names(checks):
-    """Files of names that a command could take for something else, and many blocks."""
-    odd = ["-o", "a b;$(touch bad)", "..", "*/ \\x0A", "DSDT", "_-o"]
-    for what, names in (("odd", odd), ("many", [f"f{number}.dat" for number in range(512)])):
-        heads = "".join(head_of(name, "SSDT") for name in names)
-        blocks = "".join(f'DefinitionBlock ("{name}") {{\n}}\n' for name in names)
-        text = checks.text(f"{what}.text", f"{heads}Namespace 0\n{blocks}")
-        checks.says(f"{what} names of files", [ASL, text, what], 0)
-        found = sorted(path.name for path in (checks.room / what).iterdir())
-        is_harmless = all(re.fullmatch(r"[A-Za-z0-9_+][A-Za-z0-9_.-]*", it) for it in found)
-        checks.is_so(f"files of harmless names: {found}", len(found) == len(names) and is_harmless)
-
-
-def check_speed(checks):
-    """Time grows as the text: 1 MB in six seconds, and four times the text in less than eight times that (its square: 16)."""
-    block = text_with("Store (Add (FOO_ (0x12), Buffer (0x08) {01, 02, 03, 04, 05, 06, 07, 08}, Local0), BAR_)")
-    head, _, body = block.partition('DefinitionBlock ("a.dat") {\n')
-    times = []
-    for size, most in ((1_000_000, 6), (4_000_000, 24)):
-        lines = 'DefinitionBlock ("a.dat") {\n' + body[:-2] * (size // len(body)) + "}\n"
-        text = checks.text(f"{size}.text", head + lines)
-        times.append(timed(checks.run, ASL, "--edit", text, f"of{size}", most=most)[1])
-    checks.is_so(f"seconds of 1 MB and 4 MB: {times}", times[0] < 6 and times[1] < 8 * times[0])
-
-
-# ---- one method, changed
-
-
-def check_put_in(checks, file, made, path, lines, options=()):
-    """What a table has at a path is put into a dump, which is read whole, and whose listing has these lines more."""
-    dump, before = file.read_bytes(), listed(file.parent, options)
-    (checks.room / "new.aml").write_bytes(made)
-    file.write_bytes(spliced(checks, file, "new.aml", path))
-    same = listed(file.parent, [*options, "--check"])
-    checks.is_so(f"{file}: {path}: {same}", " Differs" not in same and f'Check "{file.name}"' in same)
-    check_difference(checks, f"{file}: {path}", before, listed(file.parent, options), lines)
-    file.write_bytes(dump)
-
-
-def added(checks, name, dumps, options):
-    """A statement is put into each method of a set: compiled alone, spliced, read, and the listings differ in its line."""
-    place = written(checks.room / f"changed {name}", {dump.name: dump.data for dump in dumps})
-    text, statement = checks.text(f"{name}.text", listed(place, options)), "Store (0x11223344, Debug)"
-    for number, path in enumerate(re.findall(r"^  (\S+) Method [0-7]$", text.read_text(), re.M)):
-        out = checks.room / f"{name}.{number}"
-        if checks.run(ASL, "--method", path, text, out).returncode:
-            continue
-        (source,) = out.iterdir()
-        whole, method_line = source.read_text("ascii"), re.compile(r"^( *)Method \(.*\n", re.M)
-        source.write_text(method_line.sub(rf"\g<0>\1  {statement}\n", whole, count=1), "ascii")
-        made = compiled(source)
-        checks.is_so(f"{name}: {path} is compiled", made)
-        if made:
-            check_put_in(checks, place / source.name.removesuffix(".asl"), made, path, [statement], options)
-
-
-def check_edit(checks):
-    """Whole tables to be changed are compiled, but with a name that nothing declares."""
-    checks.text("edit.text", listed(written(checks.room / "edit", VERSIONS["first"])))
-    checks.says("--edit", [ASL, "--edit", "edit.text", "edited"], 0)
-    checks.says("--edit once more", [ASL, "--edit", "edit.text", "edited"], 0)
-    what = "acpidis-asl: 'edited/dsdt.dat.asl' is there, and may have been changed: remove it, or name another folder\n"
-    checks.says("without --edit", [ASL, "edit.text", "edited"], 2, what)
-    whole = (checks.room / "edited/dsdt.dat.asl").read_text("ascii")
-    checks.text("edited/dsdt.dat.asl", whole + "// changed\n")
-    checks.says("--edit of what is changed", [ASL, "--edit", "edit.text", "edited"], 2, what)
-    for source in (checks.room / "edited").iterdir():
-        checks.is_so(f"{source.name} is compiled", compiled(source))
-        text = source.read_text("ascii")
-        statements = {"Store (Arg0, DBG0)": True, "Store (Arg0, DBGX)": False, "POST (Arg0)": True, "POST ()": False}
-        for statement, holds in statements.items():
-            source.write_text(re.sub(r"(Method \([A-Z_]*, 1, .*\n)", rf"\g<1>{statement}\n", text), "ascii")
-            source.with_suffix(".aml").unlink(missing_ok=True)
-            checks.is_same(f"{source.name} with {statement}", compiled(source) is not None, holds)
-
-
 def listed(folder, options=()):
-    ran = subprocess.run([PROGRAM, *options, folder], capture_output=True, check=False)
-    return ran.stdout.decode("ascii")
+    return subprocess.run([PROGRAM, *options, folder], capture_output=True, check=False).stdout.decode("ascii")
 
 
-def spliced(checks, *words):
-    return checks.says(f"splice {words}", [SPLICE, *words], 0, b"", text=False)
-
-
-def check_difference(checks, what, before, after, lines):
-    """The second listing has these lines more, one behind the other, and another length of one table."""
-    before, after = (
-        re.sub(r'^(Table "[^"]*" "[^"]*") Length \d+', r"\1", text, flags=re.M).split("\n") for text in (before, after)
-    )
-    same = next((at for at, (one, two) in enumerate(zip(before, after)) if one != two), len(before))
-    new = after[same : same + len(lines)]
-    checks.is_so(
-        f"{what}: only these lines more", after == before[:same] + new + before[same:] and [it.strip() for it in new] == lines
-    )
-
-
-def check_grown(checks):
-    """Methods of made-up sets, each with so many more statements at its end."""
-    chance, number = random.Random(0), 0
-    for seed in itertools.takewhile(lambda _: number < GROWN, range(1000, 1200)):
-        files = plain_set(seed)
-        place, loaded = written(checks.room / f"grown{seed}", files), load(list(map(aml_of, files.values())))
-        methods = [it for it in loaded.space.methods if not loaded.body(it, False).fault]
-        for it in chance.sample(methods, min(4, len(methods))):
-            number += 1
-            more = NOOP * chance.choice((1, 2, 50, 63, 4000, chance.randrange(1, MOST_GROWN), MOST_GROWN))
-            code = loaded.codes[it.table]
-            new = method(shortest(Name(True, 0, it.path)), code[it.start - 1], code[it.start : it.end], more)
-            file, path = place / list(files)[it.table], path_text(it.path)
-            check_put_in(checks, file, table(b"SSDT", new), path, ["Noop"] * len(more))
-    checks.is_so(f"{number} methods are grown", number >= GROWN)
-
-
-def check_splice(checks):
-    """What is refused, what else may be put in, revisions and archives."""
-    declared, twice = device(b"DEV0", b"\x08NAM0\x01", method(b"MET0", 0)), method(b"TWIC", 0) * 2
-    again = scope(b"\\DEV0", method(b"MET0", 1, NOOP), b"\x08NAM0\x0A\x07")
-    files = {
-        "old": table(b"DSDT", declared + b"\x08NAM1\x01" + twice), "new": table(b"SSDT", again + b"\x08NAM1\x0D1\x00"),
-        "other": table(b"SSDT", device(b"NAM1")), "cut": table(b"SSDT", b"\x08NAM1")[:-1], "short": b"DSDT",
-        "broken": table(b"SSDT", b"\x08NAM1\x01\x02"), "far": table(b"SSDT", b"\x08\\.DEV0NAM0\x12\x06\x01NAM1"),
-    }  # fmt: skip
-    written(checks.room / "splice", files)
-    old, new = "splice/old", "splice/new"
-    for words, what in UNSPLICED:
-        one, other, path = words.split()
-        checks.says(f"splice {words}", [SPLICE, f"splice/{one}", f"splice/{other}", path], 1, f"acpidis-splice: {what}\n", "")
-    checks.is_same("no path", checks.run(SPLICE, old, new, "1").returncode, 2)
-    for more, file in ((["-o", old], old), (["--initrd", "splice/../splice/old"], "splice/../splice/old"), (["-o", "-"], "-")):
-        ran = checks.run(SPLICE, *more, old, new, "NAM1")
-        what = "no name of a file" if file == "-" else "DUMP"
-        said = f"splice.py: error: {file!r} is {what}: name another"
-        checks.is_same(f"splice {more}", (ran.returncode, ran.stderr.splitlines()[-1]), (2, said))
-    checks.is_same("DUMP stays", (checks.room / old).read_bytes(), files["old"])
-    paths = "\\DEV0.MET0", "dev0.nam0", "\\NAM1"
-    patched = spliced(checks, "--oem-revision", "--initrd", "acpi.cpio", old, new, *paths)
-    wanted = device(b"DEV0", b"\x08NAM0\x0A\x07", method(b"MET0", 1, NOOP)) + b"\x08NAM1\x0D1\x00" + twice
-    head = bytearray(files["old"][:HEADER])
-    head[24] += 1
-    checks.is_same("what is put in", patched, sealed(bytes(head) + wanted))
-    check_archive(checks, patched)
-    lengths = [splice.spelled(*it) for it in ((63, 1), (64, 1), (4095, 2))]
-    checks.is_same("lengths", lengths, [b"?", b"@\x04", b"O\xff"])
-    try:
-        said = splice.spelled(1 << 28, 1)
-    except splice.Refused as fault:
-        said = str(fault)
-    wanted = "a package would be longer than a package length can say"
-    checks.is_same("a length that no longer fits", said, wanted)
-    (checks.room / old).write_bytes(sealed(files["old"][:24] + b"\xFF" * 4 + files["old"][28:]))
-    said = "acpidis-splice: the OEM revision can't be raised: it is FFFFFFFF\n"
-    checks.says("the last revision", [SPLICE, "--oem-revision", old, new, "NAM1"], 1, said)
-
-
-def check_archive(checks, patched):
-    """The archive has the folders and the table, as cpio reads it where it is there."""
-    data = (checks.room / "acpi.cpio").read_bytes()
-    names = re.findall(rb"070701[0-9A-F]{104}([^\0]+)\0", data)
-    wanted = [b"kernel", b"kernel/firmware", b"kernel/firmware/acpi", b"kernel/firmware/acpi/dsdt.aml", b"TRAILER!!!"]
-    checks.is_same("names of the archive", names, wanted)
-    checks.is_so("blocks of the archive", len(data) % 512 == 0 and patched in data)
-    if shutil.which("cpio"):
-        (checks.room / "cpio").mkdir()
-        subprocess.run(["cpio", "-i", "--quiet"], cwd=checks.room / "cpio", input=data, check=False)
-        checks.is_same("cpio", (checks.room / "cpio/kernel/firmware/acpi/dsdt.aml").read_bytes(), patched)
-
-
-# ---- files with tables in them
-
-
-def acpidump(tables):
-    """The text of acpidump: signatures, addresses and bytes."""
-    lines = []
-    for name, address, data in tables:
-        lines.append(f"{name} @ 0x{address:016X}")
-        for at in range(0, len(data), 16):
-            row = data[at : at + 16]
-            shown = "".join(chr(it) if 0x20 <= it < 0x7F else "." for it in row)
-            lines.append(f"    {at:04X}: {row.hex(' ').upper():48} {shown}")
-        lines.append("")
-    return "\n".join(lines) + "\n"
-
-
-def check_unpack(checks):
-    dsdt, ssdt = table(b"DSDT", b"\x08AAAA\x01"), table(b"SSDT", b"\x08BBBB" + b"\x0D" + b"x" * 70_000 + b"\0")
-    oem, asf = table(b"OEM1", b"12345"), table(b"ASF!", b"1")
-    text = acpidump([("DSDT", 0, dsdt), ("SSDT", 0, ssdt), ("SSDT", 0, dsdt), ("OEM1", 0, oem), ("ASF!", 0, asf)])
-    names = {"dsdt.dat": dsdt, "ssdt1.dat": ssdt, "ssdt2.dat": dsdt, "oem1.dat": oem, "asf!.dat": asf}
-    quoted = "".join(f"> {line}\r\n" for line in ["Hello,", "", *text.split("\n"), "Regards"])
-    wrong = dsdt[:9] + bytes([dsdt[9] ^ 1]) + dsdt[10:]
-    noise, one_by_one = random.Random(0).randbytes(5000), {"dsdt.dat": dsdt, "ssdt.dat": ssdt, "oem1.dat": oem}
-    for name, content, wanted in [
-        ("plain", text.encode(), names),
-        ("quoted", quoted.encode(), names),
-        ("lower", text.replace("    0000: 44", "0000: 44").encode(), names),
-        ("behind", dsdt + ssdt + oem, one_by_one),
-        ("image", noise + dsdt + b"\xFF" * 100 + ssdt + oem + dsdt + bytes(77), one_by_one),
-        ("wrong sum", wrong + ssdt, {"dsdt.dat": wrong, "ssdt.dat": ssdt}),
-    ]:
-        check_folder(checks, name, content, wanted)
-    if ACPIXTRACT:
-        place = written(checks.room / "acpixtract", {})
-        subprocess.run([ACPIXTRACT, "-a", checks.room / "plain"], cwd=place, capture_output=True, check=False)
-        checks.is_same("as acpixtract", files_in(place), names)
-    half = "line 3: a whole row of DSDT at 0010 should stand there"
-    for name, content, what in [
-        ("no table", "hello", "no table is in it"),
-        ("packed", "\x1f\x8b\x08", "it is packed: unpack it first"),
-        ("nothing", "", "no table is in it"),
-        ("cut", text[: text.index("    0020:")] + "\n", "line 1: DSDT has 32 bytes of 42"),
-        ("gap", text.replace("    0010:", "    0020:", 1), half),
-        ("no row", text.replace("0010: ", "0010: 4Z "), half),
-        ("half a row", re.sub("0010: (.. .. )..", r"0010: \1??", text), half),
-        ("truncated", dsdt[:-1].decode("latin-1"), "DSDT has 41 bytes of 42"),
-        ("title", "DSDT @ 0x0\n", "line 1: DSDT has 0 bytes of its header"),
-        ("cut title", text[: text.index(" @ 0x", 9) + 5], "line 6: the text ends in the title of a table, 'SSDT @ 0x'"),
-        ("cut behind", (dsdt + dsdt[:-1]).decode("latin-1"), "byte 42: DSDT has 41 bytes of 42"),
-        ("cut header", (dsdt + ssdt[:7]).decode("latin-1"), "byte 42: SSDT has 7 bytes of its header"),
-    ]:  # fmt: skip
-        (checks.room / name).write_bytes(content.encode("latin-1"))
-        checks.says(name, [UNPACK, name, f"{name}.d"], 1, f"acpidis-unpack: {name!r}: {what}\n")
-        checks.is_so(f"{name}: nothing is written", not (checks.room / f"{name}.d").exists())
-    said = "acpidis-unpack: 'plain.d' is there, and isn't an empty folder\n"
-    checks.says("a folder in the way", [UNPACK, "plain", "plain.d"], 2, said)
-    check_chain(checks)
-    image = b"DSDT\xFF\xFF\x00\x00\1\0TEST  EXAMPLE \1\0\0\0TEST\1\0\0\0" * 30_000 + b"DSDT"
-    (checks.room / "claims").write_bytes(image)
-    _, seconds = timed(checks.run, UNPACK, "claims", "claims.d")
-    checks.is_so(f"an image of 1 MB that claims many tables: {seconds} s", seconds < 3)
+def dumped(name, address, data):
+    """The text of acpidump for a table: its signature, its address and its bytes."""
+    rows = ((at, data[at : at + 16]) for at in range(0, len(data), 16))
+    shown = (f"    {at:04X}: {row.hex(' ').upper():48} {re.sub(rb'[^ -~]', b'.', row).decode()}\n" for at, row in rows)
+    return "".join([f"{name} @ 0x{address:016X}\n", *shown, "\n"])
 
 
 def files_in(folder):
     return {path.name: path.read_bytes() for path in folder.iterdir()}
 
 
-def check_folder(checks, name, content, wanted):
-    (checks.room / name).write_bytes(content)
-    shown = {file: "SSDT" if file == "ssdt2.dat" else data[:4].decode() for file, data in wanted.items()}
-    lines = "".join(f"{file} {shown[file]} {len(data)}\n" for file, data in wanted.items())
-    checks.says(name, [UNPACK, name, f"{name}.d"], 0, "", lines)
-    checks.is_same(f"{name}: files", files_in(checks.room / f"{name}.d"), wanted)
+class Checks(Tally):
+    same = told = 0
 
+    def check_set(self, name, dumps, options):
+        """Each block of a set's listing of which nothing is told compiles to its dump."""
+        outcome = run(dumps, options)
+        if outcome.status == REFUSED:
+            return
+        place = written(self.room / name / "dumps", {dump.name: dump.data for dump in dumps})
+        text, out = self.text(f"{name}/text", outcome.out), self.room / name / "out"
+        ran = self.run(ASL, "--tables", place, text, out)
+        told = {line.removeprefix("acpidis-asl: ").partition(": ")[0] for line in ran.stderr.splitlines()}
+        self.is_so(f"{name}: {ran.stderr[-500:]}", ran.returncode in (0, 3) and "Traceback" not in ran.stderr)
+        made = sorted(out.iterdir(), key=lambda path: path.stat().st_mtime_ns)
+        files = dict(zip(re.findall(r'^DefinitionBlock \("(.*)"\) \{$', outcome.out, re.M), made))
+        data = {file_text(dump.name)[1:-1]: dump.data for dump in dumps}
+        for file, path in files.items():
+            self.told += file in told
+            if IASL and file not in told:
+                self.same += 1
+                # It has the bytes of the dump, but for its sum and its creator.
+                made, dump = compiled(path) or b"", data[file][: int.from_bytes(data[file][4:8], "little")]
+                same = (made[:9], made[10:28], made[HEADER:]) == (dump[:9], dump[10:28], dump[HEADER:])
+                self.is_so(f"{name}: {file} again", same)
 
-def check_chain(checks):
-    """Addresses are written where they lead to the DSDT, and acpidis takes the folder."""
-    files = shapes.led(["rsdp.dat", "xsdt.dat", *shapes.LED, "ssdt.dat"], 8, 0)
-    words = {"rsdp.dat": "RSD PTR", "xsdt.dat": "XSDT", "facp.dat": "FACP", "dsdt.dat": "DSDT", "ssdt.dat": "SSDT"}
-    places = (line.split() for line in files["tables.map"].decode().splitlines())
-    dumped = [(words[name], int(place, 16), files[name]) for place, name in places]
-    for name, known, lines in (("chain", dumped, 5), ("broken chain", dumped[1:], 0)):
-        checks.run(UNPACK, checks.text(name, acpidump(known)), name + ".d")
-        place = checks.room / f"{name}.d" / "tables.map"
-        checks.is_same(name, len(place.read_text().splitlines()) if place.exists() else 0, lines)
-        checks.is_so(f"{name} is read", 'DefinitionBlock ("ssdt.dat")' in listed(checks.room / f"{name}.d"))
+    def check_sets(self, count, folders):
+        jobs = [(name, dumps_of(files), Options(any_run=True)) for name, files in SAMPLES.items()]
+        jobs += [("demo", read_folder(DEMO), Options())]
+        jobs += [(f"plain{seed}", dumps_of(plain_set(seed)), Options()) for seed in range(count)]
+        jobs += [(f"of_{it.name}", read_folder(it), Options(any_run=True, any_sum=True)) for it in folders]
+        with concurrent.futures.ThreadPoolExecutor(os.cpu_count()) as pool:
+            list(pool.map(lambda job: self.check_set(*job), jobs))
+        if IASL:
+            self.is_so(f"most made-up tables are compiled: {self.same} of {self.same + self.told}", self.same >= count)
 
+    def check_told(self):
+        rows = [(body.replace("\\n", "\n    "), what, 9, 2) for body, what in BODIES]
+        rows += [(f"Field (REG0, 0x01) {{\n      {unit}\n    }}", what, 10, 2) for unit, what in UNITS]
+        wide = f"{WIDE} in a table of revision 1, whose integers have 4 bytes"
+        rows += [(*SCOPED, 9, 2), (f"Store ({WIDE}, Local0)", wide, 9, 1)]
+        for at, (body, what, number, revision) in enumerate(rows):
+            text = self.text("told.text", text_with(body, revision))
+            self.refuses(body, [ASL, text, f"told{at}"], f"a.dat: line {number} of the listing: {what}", 3)
 
-def check_show(checks):
-    """What is declared at a path, or at paths that end so, or is like it where nothing is."""
-    place = written(checks.room / "show", {**VERSIONS["first"], "ssdt2.dat": table(b"SSDT", SETS["externals"][0])})
-    text = checks.text("show.text", listed(place))
-    for path, wanted in parts_in("shown.txt")[1:]:
-        is_there = wanted.startswith("DefinitionBlock")
-        said, shown = ("", wanted + "\n") if is_there else (f"acpidis-show: {str(text)!r} {wanted}\n", "")
-        checks.says(f"show {path}", [SHOW, text, path], int(not is_there), said, shown)
-    heads = checks.run(SHOW, text, "_hid").stdout.count("Name (_HID, ")
-    checks.is_same("each _HID", heads, text.read_text().count("Name (_HID, "))
-    whole = checks.run(SHOW, text, "EC0").stdout
-    checks.is_so("a device whole", whole.count("{") == whole.count("}") + 3 and "Method (_Q13" in whole)
-    checks.is_same("no path", checks.run(SHOW, text, "1").returncode, 2)
-    ran = checks.run(SHOW, place / "dsdt.dat", "SMI")
-    checks.is_same("no listing", (ran.returncode, ran.stderr.count("\n")), (1, 1))
+    def check_method(self):
+        """Nothing is made of a raw method, of several, or of a path not from the root; and iasl refuses a raw body."""
+        raw = self.text("raw.text", text_with("Raw {A4}"))
+        for path, said in METHODS:
+            self.refuses(f"--method {path}", [ASL, "--method", path, raw, "method"], f"{str(raw)!r}: {said}")
+        self.is_so("no method is written", not (self.room / "method").exists())
+        twice = self.text("twice.text", WHOLE[:-2] + "  Method (FOO_, 0, NotSerialized, 0) {\n  }\n}\n")
+        said = f"{str(twice)!r}: it declares \\FOO_ on the lines 8, 11: change the table as a whole, with --edit"
+        self.refuses("a method twice", [ASL, "--method", "FOO_", twice, "method"], said)
+        for option in ("--edit",), ():
+            out = self.room / f"raw{len(option)}"
+            self.is_same("a raw body is told", self.run(ASL, *option, raw, out).returncode, 3)
+            self.is_so("iasl refuses a raw body", not IASL or not compiled(out / "a.dat.asl"))
 
+    def check_misread(self):
+        for content, what in MISREAD:
+            text = self.text("misread.text", content)
+            for words in ([ASL, text, "misread"], [ASL, "--edit", text, "misread"]):
+                self.refuses(content[-300:], words, f"{str(text)!r}: {what}")
+        self.is_so("nothing is written", not (self.room / "misread").exists())
+        text.write_bytes(WHOLE.replace("\n", "\r\n").encode())
+        self.says("lines as on Windows", [ASL, text, "windows"], 0)
 
-def check_forms(checks):
-    """Lengths and names that aren't in their shortest form are told by the dumps."""
-    code = b"\x5B\x82\x49\x01DEV0" + b"\x08\x2F\1NAM0\1" + method(b"NAM1", 0, b"")
-    length = len(code) - 2
-    code = code[:2] + bytes([0x40 | length & 15, length >> 4]) + code[4:]
-    place = written(checks.room / "forms", tables(code))
-    checks.text("forms.text", listed(place))
-    what = "acpidis-asl: dsdt.dat: 2 of 2 lengths, 1 of 3 names aren't in their shortest form, which iasl writes\n"
-    checks.says("forms", [ASL, "--tables", place, "forms.text", "formed"], 3, what)
-    (place / "dsdt.dat").write_bytes(table(b"DSDT", b"\x08NAM0\1"))
-    what = f"acpidis-asl: {str(place / 'dsdt.dat')!r} isn't the dump of this listing: they differ at byte 37\n"
-    checks.says("another dump", [ASL, "--tables", place, "forms.text", "formed"], 2, what)
+    def check_names(self):
+        """Files of names that a command could take for something else, and many blocks."""
+        odd = ["-o", "a b;$(touch bad)", "..", "*/ \\x0A", "DSDT", "_-o"]
+        for what, names in (("odd", odd), ("many", [f"f{number}.dat" for number in range(512)])):
+            heads = "".join(head_of(name, "SSDT") for name in names)
+            blocks = "".join(f'DefinitionBlock ("{name}") {{\n}}\n' for name in names)
+            text = self.text(f"{what}.text", f"{heads}Namespace 0\n{blocks}")
+            self.says(f"{what} names of files", [ASL, text, what], 0)
+            found = sorted(path.name for path in (self.room / what).iterdir())
+            is_harmless = all(re.fullmatch(r"[A-Za-z0-9_+][A-Za-z0-9_.-]*", it) for it in found)
+            self.is_so(f"files of harmless names: {found}", len(found) == len(names) and is_harmless)
 
+    def check_speed(self):
+        """Time grows as the text: 1 MB in six seconds, and four times as much in less than eight times that."""
+        block = text_with("Store (Add (FOO_ (0x12), Buffer (0x08) {01, 02, 03, 04, 05, 06, 07, 08}, Local0), BAR_)")
+        head, _, body = block.partition('DefinitionBlock ("a.dat") {\n')
+        times = []
+        for size, most in ((1_000_000, 6), (4_000_000, 24)):
+            lines = 'DefinitionBlock ("a.dat") {\n' + body[:-2] * (size // len(body)) + "}\n"
+            text = self.text(f"{size}.text", head + lines)
+            times.append(timed(self.run, ASL, "--edit", text, f"of{size}", most=most)[1])
+        self.is_so(f"seconds of 1 MB and 4 MB: {times}", times[0] < 6 and times[1] < 8 * times[0])
 
-CHECKS = (
-    check_forms, check_told, check_method, check_misread, check_names, check_speed, check_splice, check_unpack,
-    check_show, check_grown,
-)  # fmt: skip
+    def check_put_in(self, file, made, path, lines, options=()):
+        """What a table has at a path is put into a dump, which is read whole, and its listing has these lines more."""
+        dump, before = file.read_bytes(), listed(file.parent, options)
+        (self.room / "new.aml").write_bytes(made)
+        file.write_bytes(self.says(f"splice {path}", [SPLICE, file, "new.aml", path], 0, b"", text=False))
+        checked = listed(file.parent, [*options, "--check"])
+        self.is_so(f"{file}: {path}: {checked}", " Differs" not in checked and f'Check "{file.name}"' in checked)
+        # They stand one behind the other, and one table has another length.
+        form, both = re.compile(r'^(Table "[^"]*" "[^"]*") Length \d+', re.M), (before, listed(file.parent, options))
+        before, after = (form.sub(r"\1", text).split("\n") for text in both)
+        same = len(os.path.commonprefix([before, after]))
+        new = after[same : same + len(lines)]
+        is_added = after == before[:same] + new + before[same:] and [it.strip() for it in new] == lines
+        self.is_so(f"{file}: {path}: only these lines more", is_added)
+        file.write_bytes(dump)
+
+    def added(self, name, dumps, options):
+        """Each method of a set with a statement more is compiled alone and spliced: the listings differ in its line."""
+        place = written(self.room / f"changed {name}", {dump.name: dump.data for dump in dumps})
+        text, statement = self.text(f"{name}.text", listed(place, options)), "Store (0x11223344, Debug)"
+        for number, path in enumerate(re.findall(r"^  (\S+) Method [0-7]$", text.read_text(), re.M)):
+            out = self.room / f"{name}.{number}"
+            if self.run(ASL, "--method", path, text, out).returncode:
+                continue
+            (source,) = out.iterdir()
+            whole, method_line = source.read_text("ascii"), re.compile(r"^( *)Method \(.*\n", re.M)
+            source.write_text(method_line.sub(rf"\g<0>\1  {statement}\n", whole, count=1), "ascii")
+            made = compiled(source)
+            self.is_so(f"{name}: {path} is compiled", made)
+            if made:
+                self.check_put_in(place / source.name.removesuffix(".asl"), made, path, [statement], options)
+
+    def check_edit(self):
+        """Whole tables to be changed are compiled, but with a name that nothing declares."""
+        self.text("edit.text", listed(written(self.room / "edit", VERSIONS["first"])))
+        self.says("--edit", [ASL, "--edit", "edit.text", "edited"], 0)
+        self.says("--edit once more", [ASL, "--edit", "edit.text", "edited"], 0)
+        what = "'edited/dsdt.dat.asl' is there, and may have been changed: remove it, or name another folder"
+        self.refuses("without --edit", [ASL, "edit.text", "edited"], what, 2)
+        self.text("edited/dsdt.dat.asl", (self.room / "edited/dsdt.dat.asl").read_text("ascii") + "// changed\n")
+        self.refuses("--edit of what is changed", [ASL, "--edit", "edit.text", "edited"], what, 2)
+        for source in (self.room / "edited").iterdir():
+            self.is_so(f"{source.name} is compiled", compiled(source))
+            text = source.read_text("ascii")
+            rows = ("Store (Arg0, DBG0)", True), ("Store (Arg0, DBGX)", False), ("POST (Arg0)", True), ("POST ()", False)
+            for statement, holds in rows:
+                source.write_text(re.sub(r"(Method \([A-Z_]*, 1, .*\n)", rf"\g<1>{statement}\n", text), "ascii")
+                source.with_suffix(".aml").unlink(missing_ok=True)
+                self.is_same(f"{source.name} with {statement}", compiled(source) is not None, holds)
+
+    def check_grown(self):
+        """Methods of made-up sets, each with so many more statements at its end."""
+        chance, number = random.Random(0), 0
+        for seed in itertools.takewhile(lambda _: number < GROWN, range(1000, 1200)):
+            files = plain_set(seed)
+            place, loaded = written(self.room / f"grown{seed}", files), load(list(map(aml_of, files.values())))
+            methods = [it for it in loaded.space.methods if not loaded.body(it, False).fault]
+            for it in chance.sample(methods, min(4, len(methods))):
+                number += 1
+                more = NOOP * chance.choice((1, 2, 50, 63, 4000, chance.randrange(1, MOST_GROWN), MOST_GROWN))
+                code = loaded.codes[it.table]
+                new = method(shortest(Name(True, 0, it.path)), code[it.start - 1], code[it.start : it.end], more)
+                file, path = place / list(files)[it.table], path_text(it.path)
+                self.check_put_in(file, table(b"SSDT", new), path, ["Noop"] * len(more))
+        self.is_so(f"{number} methods are grown", number >= GROWN)
+
+    def check_splice(self):
+        """What is refused, what else may be put in, revisions and archives."""
+        declared, twice = device(b"DEV0", b"\x08NAM0\x01", method(b"MET0", 0)), method(b"TWIC", 0) * 2
+        again = scope(b"\\DEV0", method(b"MET0", 1, NOOP), b"\x08NAM0\x0A\x07")
+        files = {
+            "old": table(b"DSDT", declared + b"\x08NAM1\1" + twice), "new": table(b"SSDT", again + b"\x08NAM1\x0D1\0"),
+            "other": table(b"SSDT", device(b"NAM1")), "cut": table(b"SSDT", b"\x08NAM1")[:-1], "short": b"DSDT",
+            "broken": table(b"SSDT", b"\x08NAM1\x01\x02"), "far": table(b"SSDT", b"\x08\\.DEV0NAM0\x12\x06\x01NAM1"),
+        }  # fmt: skip
+        written(self.room / "splice", files)
+        old, new = "splice/old", "splice/new"
+        for words, what in UNSPLICED:
+            one, other, path = words.split()
+            self.refuses(f"splice {words}", [SPLICE, f"splice/{one}", f"splice/{other}", path], what, printed="")
+        self.is_same("no path", self.run(SPLICE, old, new, "1").returncode, 2)
+        for option, file in ("-o", old), ("--initrd", "splice/../splice/old"), ("-o", "-"):
+            ran = self.run(SPLICE, option, file, old, new, "NAM1")
+            said = f"splice.py: error: {file!r} is {'no name of a file' if file == '-' else 'DUMP'}: name another"
+            self.is_same(f"splice {option} {file}", (ran.returncode, ran.stderr.splitlines()[-1]), (2, said))
+        self.is_same("DUMP stays", (self.room / old).read_bytes(), files["old"])
+        words = [SPLICE, "--oem-revision", "--initrd", "acpi.cpio", old, new, "\\DEV0.MET0", "dev0.nam0", "\\NAM1"]
+        patched = self.says("three paths", words, 0, b"", text=False)
+        wanted = device(b"DEV0", b"\x08NAM0\x0A\x07", method(b"MET0", 1, NOOP)) + b"\x08NAM1\x0D1\x00" + twice
+        head = bytearray(files["old"][:HEADER])
+        head[24] += 1
+        self.is_same("what is put in", patched, sealed(bytes(head) + wanted))
+        self.check_archive(patched)
+        lengths = [splice.spelled(*it) for it in ((63, 1), (64, 1), (4095, 2))]
+        self.is_same("lengths", lengths, [b"?", b"@\x04", b"O\xff"])
+        try:
+            said = splice.spelled(1 << 28, 1)
+        except splice.Refused as fault:
+            said = str(fault)
+        self.is_same("a length that no longer fits", said, "a package would be longer than a package length can say")
+        (self.room / old).write_bytes(sealed(files["old"][:24] + b"\xFF" * 4 + files["old"][28:]))
+        said = "the OEM revision can't be raised: it is FFFFFFFF"
+        self.refuses("the last revision", [SPLICE, "--oem-revision", old, new, "NAM1"], said)
+
+    def check_archive(self, patched):
+        """The archive has the folders and the table, as cpio reads it where it is there."""
+        data = (self.room / "acpi.cpio").read_bytes()
+        names = re.findall(rb"070701[0-9A-F]{104}([^\0]+)\0", data)
+        file, end = "kernel/firmware/acpi/dsdt.aml", b"TRAILER!!!"
+        folders = [b"kernel", b"kernel/firmware", b"kernel/firmware/acpi"]
+        self.is_same("names of the archive", names, [*folders, file.encode(), end])
+        self.is_so("blocks of the archive", len(data) % 512 == 0 and patched in data)
+        if shutil.which("cpio"):
+            (self.room / "cpio").mkdir()
+            subprocess.run(["cpio", "-i", "--quiet"], cwd=self.room / "cpio", input=data, check=False)
+            self.is_same("cpio", (self.room / "cpio" / file).read_bytes(), patched)
+
+    def check_unpack(self):
+        dsdt, ssdt = table(b"DSDT", b"\x08AAAA\x01"), table(b"SSDT", b"\x08BBBB" + b"\x0D" + b"x" * 70_000 + b"\0")
+        oem, asf = table(b"OEM1", b"12345"), table(b"ASF!", b"1")
+        dumps = ("DSDT", dsdt), ("SSDT", ssdt), ("SSDT", dsdt), ("OEM1", oem), ("ASF!", asf)
+        text = "".join(dumped(name, 0, data) for name, data in dumps) + "\n"
+        names = {"dsdt.dat": dsdt, "ssdt1.dat": ssdt, "ssdt2.dat": dsdt, "oem1.dat": oem, "asf!.dat": asf}
+        quoted = "".join(f"> {line}\r\n" for line in ["Hello,", "", *text.split("\n"), "Regards"])
+        wrong = dsdt[:9] + bytes([dsdt[9] ^ 1]) + dsdt[10:]
+        noise, one_by_one = random.Random(0).randbytes(5000), {"dsdt.dat": dsdt, "ssdt.dat": ssdt, "oem1.dat": oem}
+        for name, content, wanted in [
+            ("plain", text.encode(), names),
+            ("quoted", quoted.encode(), names),
+            ("lower", text.replace("    0000: 44", "0000: 44").encode(), names),
+            ("behind", dsdt + ssdt + oem, one_by_one),
+            ("image", noise + dsdt + b"\xFF" * 100 + ssdt + oem + dsdt + bytes(77), one_by_one),
+            ("wrong sum", wrong + ssdt, {"dsdt.dat": wrong, "ssdt.dat": ssdt}),
+        ]:
+            (self.room / name).write_bytes(content)
+            shown = {file: "SSDT" if file == "ssdt2.dat" else data[:4].decode() for file, data in wanted.items()}
+            lines = "".join(f"{file} {shown[file]} {len(data)}\n" for file, data in wanted.items())
+            self.says(name, [UNPACK, name, f"{name}.d"], 0, "", lines)
+            self.is_same(f"{name}: files", files_in(self.room / f"{name}.d"), wanted)
+        if ACPIXTRACT:
+            place = written(self.room / "acpixtract", {})
+            subprocess.run([ACPIXTRACT, "-a", self.room / "plain"], cwd=place, capture_output=True, check=False)
+            self.is_same("as acpixtract", files_in(place), names)
+        half = "line 3: a whole row of DSDT at 0010 should stand there"
+        for name, content, what in [
+            ("no table", "hello", "no table is in it"),
+            ("packed", "\x1f\x8b\x08", "it is packed: unpack it first"),
+            ("nothing", "", "no table is in it"),
+            ("cut", text[: text.index("    0020:")] + "\n", "line 1: DSDT has 32 bytes of 42"),
+            ("gap", text.replace("    0010:", "    0020:", 1), half),
+            ("no row", text.replace("0010: ", "0010: 4Z "), half),
+            ("half a row", re.sub("0010: (.. .. )..", r"0010: \1??", text), half),
+            ("truncated", dsdt[:-1].decode("latin-1"), "DSDT has 41 bytes of 42"),
+            ("title", "DSDT @ 0x0\n", "line 1: DSDT has 0 bytes of its header"),
+            ("cut title", text[: text.index(" @ 0x", 9) + 5], "line 6: the text ends in the title of a table, 'SSDT @ 0x'"),
+            ("cut behind", (dsdt + dsdt[:-1]).decode("latin-1"), "byte 42: DSDT has 41 bytes of 42"),
+            ("cut header", (dsdt + ssdt[:7]).decode("latin-1"), "byte 42: SSDT has 7 bytes of its header"),
+        ]:  # fmt: skip
+            (self.room / name).write_bytes(content.encode("latin-1"))
+            self.refuses(name, [UNPACK, name, f"{name}.d"], f"{name!r}: {what}")
+            self.is_so(f"{name}: nothing is written", not (self.room / f"{name}.d").exists())
+        said = "'plain.d' is there, and isn't an empty folder"
+        self.refuses("a folder in the way", [UNPACK, "plain", "plain.d"], said, 2)
+        self.check_chain()
+        image = b"DSDT\xFF\xFF\x00\x00\1\0TEST  EXAMPLE \1\0\0\0TEST\1\0\0\0" * 30_000 + b"DSDT"
+        (self.room / "claims").write_bytes(image)
+        _, seconds = timed(self.run, UNPACK, "claims", "claims.d")
+        self.is_so(f"an image of 1 MB that claims many tables: {seconds} s", seconds < 3)
+
+    def check_chain(self):
+        """Addresses are written where they lead to the DSDT, and acpidis takes the folder."""
+        files = shapes.led(["rsdp.dat", "xsdt.dat", *shapes.LED, "ssdt.dat"], 8, 0)
+        words = {"rsdp.dat": "RSD PTR", "xsdt.dat": "XSDT", "facp.dat": "FACP", "dsdt.dat": "DSDT", "ssdt.dat": "SSDT"}
+        places = (line.split() for line in files["tables.map"].decode().splitlines())
+        texts = [dumped(words[name], int(place, 16), files[name]) for place, name in places]
+        for name, known, lines in (("chain", texts, 5), ("broken chain", texts[1:], 0)):
+            self.run(UNPACK, self.text(name, "".join(known) + "\n"), name + ".d")
+            place = self.room / f"{name}.d" / "tables.map"
+            self.is_same(name, len(place.read_text().splitlines()) if place.exists() else 0, lines)
+            self.is_so(f"{name} is read", 'DefinitionBlock ("ssdt.dat")' in listed(self.room / f"{name}.d"))
+
+    def check_show(self):
+        """What is declared at a path, or at paths that end so, or is like it where nothing is."""
+        place = written(self.room / "show", {**VERSIONS["first"], "ssdt2.dat": table(b"SSDT", SETS["externals"][0])})
+        text = self.text("show.text", listed(place))
+        for path, wanted in parts_in("shown.txt")[1:]:
+            is_there = wanted.startswith("DefinitionBlock")
+            said, shown = ("", wanted + "\n") if is_there else (f"acpidis-show: {str(text)!r} {wanted}\n", "")
+            self.says(f"show {path}", [SHOW, text, path], int(not is_there), said, shown)
+        heads = self.run(SHOW, text, "_hid").stdout.count("Name (_HID, ")
+        self.is_same("each _HID", heads, text.read_text().count("Name (_HID, "))
+        whole = self.run(SHOW, text, "EC0").stdout
+        self.is_so("a device whole", whole.count("{") == whole.count("}") + 3 and "Method (_Q13" in whole)
+        self.is_same("no path", self.run(SHOW, text, "1").returncode, 2)
+        ran = self.run(SHOW, place / "dsdt.dat", "SMI")
+        self.is_same("no listing", (ran.returncode, ran.stderr.count("\n")), (1, 1))
+
+    def check_forms(self):
+        """Lengths and names that aren't in their shortest form are told by the dumps."""
+        code = b"\x5B\x82\x49\x01DEV0" + b"\x08\x2F\1NAM0\1" + method(b"NAM1", 0, b"")
+        length = len(code) - 2
+        code = code[:2] + bytes([0x40 | length & 15, length >> 4]) + code[4:]
+        place = written(self.room / "forms", tables(code))
+        self.text("forms.text", listed(place))
+        words = [ASL, "--tables", place, "forms.text", "formed"]
+        what = "dsdt.dat: 2 of 2 lengths, 1 of 3 names aren't in their shortest form, which iasl writes"
+        self.refuses("forms", words, what, 3)
+        (place / "dsdt.dat").write_bytes(table(b"DSDT", b"\x08NAM0\1"))
+        what = f"{str(place / 'dsdt.dat')!r} isn't the dump of this listing: they differ at byte 37"
+        self.refuses("another dump", words, what, 2)
 
 
 def main():
@@ -461,15 +406,18 @@ def main():
     if not IASL:
         print("iasl isn't there (acpica-tools): nothing is compiled")
     with Checks(words.stop) as checks:
-        for check in CHECKS:
-            check(checks)
-        check_sets(checks, words.sets, words.folders)
+        for check in (
+            checks.check_forms, checks.check_told, checks.check_method, checks.check_misread, checks.check_names,
+            checks.check_speed, checks.check_splice, checks.check_unpack, checks.check_show, checks.check_grown,
+        ):  # fmt: skip
+            check()
+        checks.check_sets(words.sets, words.folders)
         if IASL:
             for version, files in VERSIONS.items():
-                added(checks, version, dumps_of(files), ["--any-run"])
-            added(checks, "of the demo", read_folder(DEMO), [])
-            added(checks, "of Externals", dumps_of(tables(*SETS["externals"])), [])
-            check_edit(checks)
+                checks.added(version, dumps_of(files), ["--any-run"])
+            checks.added("of the demo", read_folder(DEMO), [])
+            checks.added("of Externals", dumps_of(tables(*SETS["externals"])), [])
+            checks.check_edit()
 
 
 if __name__ == "__main__":

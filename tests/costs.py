@@ -9,7 +9,7 @@ PROGRAM is out/acpidis if left out. It needs a C compiler, for refusals.c. The l
 
 from functools import partial
 
-from tally import DEMO, PROGRAM, Tally, asked, run, shim_in, written
+from tally import DEMO, PROGRAM, Tally, asked, run, shim_in, timed, written
 import hostile_shapes as shapes
 import measuring
 from made_aml import tables
@@ -42,14 +42,11 @@ MOST_SECONDS, STARTED_BYTES = 2, 40_000_000
 
 
 def costs_of(program, folder, make, most, *options):
-    """What a run of a set takes. It is tried again, twice at most, where a busy machine makes it longer than it may be."""
+    """What a run of a set takes, which is tried again where a busy machine makes it longer than it may be."""
     measuring.write(folder, make)
-    for _ in range(3):
-        answer = run([program, "--workers", "1", *options, "."], 60, cwd=folder)
-        assert answer.status in (0, 3), (folder, answer)
-        if answer.processor < most:
-            break
-    return answer
+    answer, seconds = timed(run, [program, "--workers", "1", *options, "."], 60, cwd=folder, most=most)
+    assert answer.status in (0, 3), (folder, answer)
+    return answer._replace(processor=seconds)
 
 
 def measure(program, room):

@@ -40,32 +40,8 @@ def data_of(text: str) -> bytes:
     return bytes.fromhex(text.replace("LONG", LONG_NAME))
 
 
-def check_rows(checks: Tally) -> None:
-    whole, texts = b"", []
-    for row in ROWS:
-        wanted, _, code = row.rpartition(": ")
-        data = data_of(code)
-        found = descriptors(data + b"\x79\0")
-        checks.is_same(f"the bytes {code}", found and [one.text for one in found], [wanted])
-        whole += data
-        texts.append(wanted)
-        cuts = [descriptors(data[:size] + b"\x79\0") for size in range(1, len(data))]
-        checks.is_same(f"cuts of {code}", [cut for cut in cuts if cut and len(cut) > 1], [])
-    checks.is_same("all of them", [one.text for one in descriptors(whole + b"\x79\0") or []], texts)
-    checks.is_same("none", descriptors(b"\x79\0"), [])
-    for code in NO_TEMPLATES:
-        checks.is_same(f"no template: {code}", descriptors(data_of(code)), None)
-
-
 FUNCTIONS = {it.__name__: it for it in (bits_text, eisa_id, eisa_number, space_name, status_words)}
 FUNCTIONS["uuid_of"] = lambda code: uuid_text(data_of(code))
-
-
-def check_words(checks: Tally) -> None:
-    """Identifiers, spaces, status, places: by the standard's own examples and tables."""
-    for name, *values in (row.split(" | ") for row in WORDS):
-        *words, wanted = map(ast.literal_eval, values)
-        checks.is_same(f"{name} of {words}", FUNCTIONS[name](*words), wanted)
 
 
 def decoded(folder: pathlib.Path, options: Options = Options()) -> tuple:
@@ -75,25 +51,6 @@ def decoded(folder: pathlib.Path, options: Options = Options()) -> tuple:
         return None
     listing = read_listing(outcome.out.encode())
     return listing, Decoder(listing, Names(listing))
-
-
-def check_objects(checks: Tally, room: pathlib.Path) -> None:
-    """Predefined objects in words, and values of another form without any."""
-    listing, decoder = decoded(written(room / "objects", tables(*SETS["objects"])))
-    found = [f"{line.words[1]}: {row}" for line in listing.lines for row in decoder.rows(line)]
-    checks.is_same("predefined objects", found, OBJECTS)
-
-
-def check_notes(checks: Tally, folder: pathlib.Path) -> None:
-    listing, decoder = decoded(folder)
-    said = {}
-    for line in listing.blocks[0].lines:
-        notes = decoder.notes(line) + [text for one in decoder.templates(line) for text in one.texts()]
-        if notes:
-            said["".join(line.pieces)] = "; ".join(notes)
-    wanted = dict(row.rpartition(": ")[::2] for row in WANTED)
-    short = {next((head for head in wanted if text.startswith(head)), text): note for text, note in said.items()}
-    checks.is_same("the notes of a set", short, wanted)
 
 
 def our_facts(listing: Listing, decoder: Decoder) -> dict[str, dict[str, list]]:
@@ -116,25 +73,6 @@ def our_facts(listing: Listing, decoder: Decoder) -> dict[str, dict[str, list]]:
     return found
 
 
-def compare(checks: Tally, what: str, folder: pathlib.Path) -> None:
-    """What is said of a set beside iasl's text of each of its tables."""
-    read = decoded(folder, Options(any_sum=True, any_run=True))
-    if read is None:
-        print(f"{what} is refused: nothing is compared")
-        return
-    ours, dumps = our_facts(*read), read_folder(folder)
-    with tempfile.TemporaryDirectory() as room:
-        for index in order_of(dumps, True):
-            theirs = facts_of(dumps[index].data, pathlib.Path(room))
-            if theirs is None:
-                print(f"{what}, {dumps[index].name}: iasl -d fails, and nothing is compared")
-                continue
-            for kind, facts in ours[dumps[index].name].items():
-                lines = difflib.unified_diff(theirs[kind], facts, lineterm="", n=0)
-                different = [line for line in lines if not line.startswith(("---", "+++", "@@"))]
-                checks.is_same(f"{kind} of {what}, {dumps[index].name}", different, [])
-
-
 def made_set(room: pathlib.Path) -> pathlib.Path:
     """The set of the notes, and an SSDT with a buffer of all descriptors that iasl of 2020 knows."""
     rows = [row.rpartition(": ") for row in ROWS]
@@ -145,17 +83,76 @@ def made_set(room: pathlib.Path) -> pathlib.Path:
     return written(room / "made", tables(*SETS["notes"], one))
 
 
+class Checks(Tally):
+    def check_rows(self) -> None:
+        whole, texts = b"", []
+        for row in ROWS:
+            wanted, _, code = row.rpartition(": ")
+            data = data_of(code)
+            found = descriptors(data + b"\x79\0")
+            self.is_same(f"the bytes {code}", found and [one.text for one in found], [wanted])
+            whole += data
+            texts.append(wanted)
+            cuts = [descriptors(data[:size] + b"\x79\0") for size in range(1, len(data))]
+            self.is_same(f"cuts of {code}", [cut for cut in cuts if cut and len(cut) > 1], [])
+        self.is_same("all of them", [one.text for one in descriptors(whole + b"\x79\0") or []], texts)
+        self.is_same("none", descriptors(b"\x79\0"), [])
+        for code in NO_TEMPLATES:
+            self.is_same(f"no template: {code}", descriptors(data_of(code)), None)
+
+    def check_words(self) -> None:
+        """Identifiers, spaces, status, places: by the standard's own examples and tables."""
+        for name, *values in (row.split(" | ") for row in WORDS):
+            *words, wanted = map(ast.literal_eval, values)
+            self.is_same(f"{name} of {words}", FUNCTIONS[name](*words), wanted)
+
+    def check_objects(self) -> None:
+        """Predefined objects in words, and values of another form without any."""
+        listing, decoder = decoded(written(self.room / "objects", tables(*SETS["objects"])))
+        found = [f"{line.words[1]}: {row}" for line in listing.lines for row in decoder.rows(line)]
+        self.is_same("predefined objects", found, OBJECTS)
+
+    def check_notes(self, folder: pathlib.Path) -> None:
+        listing, decoder = decoded(folder)
+        said = {}
+        for line in listing.blocks[0].lines:
+            notes = decoder.notes(line) + [text for one in decoder.templates(line) for text in one.texts()]
+            if notes:
+                said["".join(line.pieces)] = "; ".join(notes)
+        wanted = dict(row.rpartition(": ")[::2] for row in WANTED)
+        short = {next((head for head in wanted if text.startswith(head)), text): note for text, note in said.items()}
+        self.is_same("the notes of a set", short, wanted)
+
+    def compare(self, what: str, folder: pathlib.Path) -> None:
+        """What is said of a set beside iasl's text of each of its tables."""
+        read = decoded(folder, Options(any_sum=True, any_run=True))
+        if read is None:
+            print(f"{what} is refused: nothing is compared")
+            return
+        ours, dumps = our_facts(*read), read_folder(folder)
+        with tempfile.TemporaryDirectory() as room:
+            for index in order_of(dumps, True):
+                theirs = facts_of(dumps[index].data, pathlib.Path(room))
+                if theirs is None:
+                    print(f"{what}, {dumps[index].name}: iasl -d fails, and nothing is compared")
+                    continue
+                for kind, facts in ours[dumps[index].name].items():
+                    lines = difflib.unified_diff(theirs[kind], facts, lineterm="", n=0)
+                    different = [line for line in lines if not line.startswith(("---", "+++", "@@"))]
+                    self.is_same(f"{kind} of {what}, {dumps[index].name}", different, [])
+
+
 def main() -> None:
     folders = asked(__doc__, folders=()).folders
-    with Tally() as checks:
-        check_rows(checks)
-        check_words(checks)
+    with Checks() as checks:
+        checks.check_rows()
+        checks.check_words()
         made = made_set(checks.room)
-        check_notes(checks, made)
-        check_objects(checks, checks.room)
+        checks.check_notes(made)
+        checks.check_objects()
         if shutil.which("iasl"):
             for folder in (DEMO, made, *folders):
-                compare(checks, folder.name, folder)
+                checks.compare(folder.name, folder)
         else:
             print("iasl is not there, so nothing is compared with it: on Debian, apt-get install acpica-tools")
 

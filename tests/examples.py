@@ -42,122 +42,116 @@ class Tries(Tally):
         is_right = run.returncode == status and (run.stdout == out or not is_whole) and not missing
         self.is_so(f"{name}: status {run.returncode}, not {status}\n{printed}", is_right)
 
+    def make_sets(self):
+        """The sets of tests/sets.txt, and some more."""
+        for name, codes in SETS.items():
+            written(self.room / name, tables(*codes))
+        written(self.room / "noted", {**tables(*SETS["twice"]), "notes.txt": b"no table"})
+        written(self.room / "packed", {"dsdt.dat": b"\x1f\x8b\x08\0" + b"a.packed.table" * 9})
+        (self.room / "linked").mkdir()
+        (self.room / "linked/dsdt.dat").symlink_to("../twice/dsdt.dat")
+        written(self.room / "misnamed", {"DSD\udce9": b""})
+        self.folder("odd", *SETS["branch"], BAD_NAME)
+        self.folder("$(touch bad)", *SETS["ejects"], BAD_NAME)
+        self.folder("text", b'\x08TEXT\x0d"\n      Raw {5A}\nMethod (AAAA, 7, \0' + SETS["ejects"][0])
+        (self.room / "given").write_text(GIVEN)
 
-def make_sets(tries):
-    """The sets of tests/sets.txt, and some more."""
-    for name, codes in SETS.items():
-        written(tries.room / name, tables(*codes))
-    written(tries.room / "noted", {**tables(*SETS["twice"]), "notes.txt": b"no table"})
-    written(tries.room / "packed", {"dsdt.dat": b"\x1f\x8b\x08\0" + b"a.packed.table" * 9})
-    (tries.room / "linked").mkdir()
-    (tries.room / "linked/dsdt.dat").symlink_to("../twice/dsdt.dat")
-    written(tries.room / "misnamed", {"DSD\udce9": b""})
-    tries.folder("odd", *SETS["branch"], BAD_NAME)
-    tries.folder("$(touch bad)", *SETS["ejects"], BAD_NAME)
-    tries.folder("text", b'\x08TEXT\x0d"\n      Raw {5A}\nMethod (AAAA, 7, \0' + SETS["ejects"][0])
-    (tries.room / "given").write_text(GIVEN)
+    def try_rows(self):
+        for name, rest in parts_in("examples.txt")[1:]:
+            if name.startswith("fake "):
+                self.fake(name.removeprefix("fake "), rest)
+                continue
+            command, *lines, ending = rest.split("\n")
+            words = shlex.split(command)[1:]
+            variables = {"ACPIDIS": str(self.room / words.pop(0).partition("=")[2])} if "=" in words[0] else {}
+            file = words.pop()[1:] if words[-1].startswith(">") else None
+            run = self.run(*words, **variables)
+            said = [line.removeprefix("2> ") for line in lines if line.startswith("2> ")]
+            out = "".join(f"{line}\n" for line in lines if not line.startswith("2> "))
+            _, status, *more = ending.split()
+            self.row(name, run, int(status), out, said, not more)
+            if file:
+                (self.room / file).write_text(run.stdout)
+        self.is_so("nothing is executed", not list(self.room.glob("**/bad")))
 
+    def try_many_missing(self):
+        """Names in bodies of their own are tried together, in as many runs as one; of one body they end with a word."""
+        names = [b"X%03d" % number for number in range(300)]
+        many = b"".join(method(b"M" + name[1:], 0, b"\xa4" + name) for name in names)
+        launched = subprocess.run([TOP / "acpidis", "--program"], capture_output=True, text=True, check=False)
+        program, calls = os.environ.get("ACPIDIS") or launched.stdout.rstrip("\n"), self.room / "calls"
+        counting = self.fake("counting", f"echo run >>'{calls}'\nexec '{program}' \"$@\"\n")
+        found = self.run("missing.py", "--try", self.folder("many", many), ACPIDIS=counting)
+        wanted = "".join(f"\\{name.decode()} 0\n" for name in names)
+        self.row("300 names", found, 0, wanted, ["# \\X299: 1 body waits, the first \\M299 at 1"])
+        self.is_so("few runs", len(calls.read_text().splitlines()) < 30)
+        pair = method(b"MAIN", 0, b"\x72AAAA\\BBBB\1\x60") + method(b"NEXT", 0, b"\x70BBBB\x0a\1\x5b\x31")
+        found = self.run("missing.py", self.folder("pair", pair))
+        self.row("two names of one body", found, 0, "\\AAAA ?\n\\BBBB ?\n", ["#   with 0: 1 reads"])
 
-def try_rows(tries):
-    """The rows of tests/examples.txt."""
-    for name, rest in parts_in("examples.txt")[1:]:
-        if name.startswith("fake "):
-            tries.fake(name.removeprefix("fake "), rest)
-            continue
-        command, *lines, ending = rest.split("\n")
-        words = shlex.split(command)[1:]
-        variables = {"ACPIDIS": str(tries.room / words.pop(0).partition("=")[2])} if "=" in words[0] else {}
-        file = words.pop()[1:] if words[-1].startswith(">") else None
-        run = tries.run(*words, **variables)
-        said = [line.removeprefix("2> ") for line in lines if line.startswith("2> ")]
-        out = "".join(f"{line}\n" for line in lines if not line.startswith("2> "))
-        _, status, *more = ending.split()
-        tries.row(name, run, int(status), out, said, not more)
-        if file:
-            (tries.room / file).write_text(run.stdout)
-    tries.is_so("nothing is executed", not list(tries.room.glob("**/bad")))
+    def try_options(self):
+        """Options that a program's help has are passed on, whatever they are, and others are refused."""
+        said, fake = self.room / "said", str(self.room / "later")
+        lines = {"calls.py": "", "missing.py": "", "refused.py": "the set isn't refused\n"}
+        for script, line in lines.items():
+            said.write_text("")
+            found = self.run(script, "--from", "a file", "rounds", "--later", "--from=--later", ACPIDIS=fake)
+            self.row(f"{script}: options", found, 0, line)
+            passed = said.read_text()
+            self.is_so(f"{script}: words of options\n{passed}", passed.startswith("--from\n--later\n--later\n"))
+            for option in ("--check", "--version", "--other", "--froma", "--later=1"):
+                found = self.run(script, option, "rounds", ACPIDIS=fake)
+                self.is_so(f"{script}: {option}", found.returncode == 2 and not found.stdout)
+            self.is_so(f"{script}: no run with them", said.read_text() == passed)
 
+    def try_damage(self):
+        """No table is so damaged that there is no answer."""
+        found = self.run("refused.py", "returns").stdout
+        is_so = "`--any-run`" not in found and "A Return outside the methods" in found
+        self.is_so("a Return, which the option doesn't take", is_so)
+        (self.room / "noted/notes.txt").write_text("DSDT @ 0x0000000000000000\n    0000: 44 53 44 54 24 00 00 00\n")
+        found = self.run("refused.py", "noted")
+        self.is_so("the text of acpidump", "Way on: `acpidis-unpack FILE FOLDER`" in found.stdout and not found.stderr)
+        self.fills_disk("refused.py", "twice")
+        end, closed = os.pipe()
+        os.close(end)
+        found = run_script("missing.py", "ejects", stdout=closed, cwd=self.room)
+        is_quiet = found.returncode == 2 and "missing:" not in found.stderr and "Errno" not in found.stderr
+        self.is_so(f"missing.py, a closed pipe: {found.returncode}, {found.stderr}", is_quiet)
+        self.folder("damaged", *SETS["branch"])
+        data, file = table(b"DSDT", SETS["branch"][0] + b"\x5b\x80REG0\0"), self.room / "damaged/dsdt.dat"
+        for at, byte in itertools.product(range(36, 86, 7), (0x00, 0x5B, 0xFF)):
+            file.write_bytes(data[:at] + bytes([byte]) + data[at + 1 :])
+            found = self.run("refused.py", "--any-sum", "damaged")
+            self.is_so("a damaged table", found.returncode in (0, 1) and not found.stderr)
 
-def try_many_missing(tries):
-    """Names in bodies of their own are tried together, so that many of them take as many runs as one; names in one body
-    aren't, and end with a word."""
-    names = [b"X%03d" % number for number in range(300)]
-    many = b"".join(method(b"M" + name[1:], 0, b"\xa4" + name) for name in names)
-    launched = subprocess.run([TOP / "acpidis", "--program"], capture_output=True, text=True, check=False)
-    program, calls = os.environ.get("ACPIDIS") or launched.stdout.rstrip("\n"), tries.room / "calls"
-    counting = tries.fake("counting", f"echo run >>'{calls}'\nexec '{program}' \"$@\"\n")
-    found = tries.run("missing.py", "--try", tries.folder("many", many), ACPIDIS=counting)
-    wanted = "".join(f"\\{name.decode()} 0\n" for name in names)
-    tries.row("300 names", found, 0, wanted, ["# \\X299: 1 body waits, the first \\M299 at 1"])
-    tries.is_so("few runs", len(calls.read_text().splitlines()) < 30)
-    pair = method(b"MAIN", 0, b"\x72AAAA\\BBBB\1\x60") + method(b"NEXT", 0, b"\x70BBBB\x0a\1\x5b\x31")
-    found = tries.run("missing.py", tries.folder("pair", pair))
-    tries.row("two names of one body", found, 0, "\\AAAA ?\n\\BBBB ?\n", ["#   with 0: 1 reads"])
-
-
-def try_options(tries):
-    """Options that a program's help has are passed on, whatever they are, and others are refused."""
-    said, fake = tries.room / "said", str(tries.room / "later")
-    lines = {"calls.py": "", "missing.py": "", "refused.py": "the set isn't refused\n"}
-    for script, line in lines.items():
-        said.write_text("")
-        found = tries.run(script, "--from", "a file", "rounds", "--later", "--from=--later", ACPIDIS=fake)
-        tries.row(f"{script}: options", found, 0, line)
-        passed = said.read_text()
-        tries.is_so(f"{script}: words of options\n{passed}", passed.startswith("--from\n--later\n--later\n"))
-        for option in ("--check", "--version", "--other", "--froma", "--later=1"):
-            found = tries.run(script, option, "rounds", ACPIDIS=fake)
-            tries.is_so(f"{script}: {option}", found.returncode == 2 and not found.stdout)
-        tries.is_so(f"{script}: no run with them", said.read_text() == passed)
-
-
-def try_damage(tries):
-    """No table is so damaged that there is no answer."""
-    found = tries.run("refused.py", "returns").stdout
-    is_so = "`--any-run`" not in found and "A Return outside the methods" in found
-    tries.is_so("a Return, which the option doesn't take", is_so)
-    (tries.room / "noted/notes.txt").write_text("DSDT @ 0x0000000000000000\n    0000: 44 53 44 54 24 00 00 00\n")
-    found = tries.run("refused.py", "noted")
-    tries.is_so("the text of acpidump", "Way on: `acpidis-unpack FILE FOLDER`" in found.stdout and not found.stderr)
-    tries.fills_disk("refused.py", "twice")
-    end, closed = os.pipe()
-    os.close(end)
-    found = run_script("missing.py", "ejects", stdout=closed, cwd=tries.room)
-    is_quiet = found.returncode == 2 and "missing:" not in found.stderr and "Errno" not in found.stderr
-    tries.is_so(f"missing.py, a closed pipe: {found.returncode}, {found.stderr}", is_quiet)
-    tries.folder("damaged", *SETS["branch"])
-    data, file = table(b"DSDT", SETS["branch"][0] + b"\x5b\x80REG0\0"), tries.room / "damaged/dsdt.dat"
-    for at, byte in itertools.product(range(36, 86, 7), (0x00, 0x5B, 0xFF)):
-        file.write_bytes(data[:at] + bytes([byte]) + data[at + 1 :])
-        found = tries.run("refused.py", "--any-sum", "damaged")
-        tries.is_so("a damaged table", found.returncode in (0, 1) and not found.stderr)
-
-
-def try_deep(tries):
-    """Paths of many segments, and many names below them: an answer in time, or a line why not."""
-    deep = b"\\\x2f\xff" + b"".join(b"S%03d" % level for level in range(255))
-    longs = b"".join(b"\x08" + deep[:-4] + b"X%03d\0" % number for number in range(60))
-    # Devices in each other, around a Name
-    nested = functools.reduce(lambda code, level: device(b"S%03d" % level, code), range(480), b"\x08DUPE\0")
-    tries.folder("nested", nested * 2)
-    tries.folder("long", longs + b"\x08" + deep[:-4] + b"X000\0")
-    tries.folder("below", method(deep, 0, b"\x70XXXX\x60" * 300))
-    for folder in ("nested", "long", "below"):
-        for command in ("refused.py", "refused.py --any-run", "calls.py --any-run", "missing.py --any-run"):
-            script, *words = command.split()
-            run, seconds = timed(tries.run, script, *words, folder, most=2)
-            is_said = run.returncode in (0, 1, 2) and "Traceback" not in run.stderr and len(run.stderr.splitlines()) < 50
-            tries.is_so(f"{script}, {folder}: {run.returncode}, {run.stderr[-300:]}", is_said)
-            tries.is_so(f"{script}, {folder}: {seconds} seconds", seconds < 2)
-    found = tries.run("missing.py", "--any-run", "nested").stderr
-    said = "acpidis-missing: line [0-9]+: a scope of more than 64 segments.*\n"
-    tries.is_so("the line of a deep scope", re.fullmatch(said, found))
+    def try_deep(self):
+        """Paths of many segments, and many names below them: an answer in time, or a line why not."""
+        deep = b"\\\x2f\xff" + b"".join(b"S%03d" % level for level in range(255))
+        longs = b"".join(b"\x08" + deep[:-4] + b"X%03d\0" % number for number in range(60))
+        # Devices in each other, around a Name
+        nested = functools.reduce(lambda code, level: device(b"S%03d" % level, code), range(480), b"\x08DUPE\0")
+        self.folder("nested", nested * 2)
+        self.folder("long", longs + b"\x08" + deep[:-4] + b"X000\0")
+        self.folder("below", method(deep, 0, b"\x70XXXX\x60" * 300))
+        for folder in ("nested", "long", "below"):
+            for command in ("refused.py", "refused.py --any-run", "calls.py --any-run", "missing.py --any-run"):
+                script, *words = command.split()
+                run, seconds = timed(self.run, script, *words, folder, most=2)
+                is_short = "Traceback" not in run.stderr and run.stderr.count("\n") < 50
+                is_said = run.returncode in (0, 1, 2) and is_short
+                self.is_so(f"{script}, {folder}: {run.returncode}, {run.stderr[-300:]}", is_said)
+                self.is_so(f"{script}, {folder}: {seconds} seconds", seconds < 2)
+        found = self.run("missing.py", "--any-run", "nested").stderr
+        said = "acpidis-missing: line [0-9]+: a scope of more than 64 segments.*\n"
+        self.is_so("the line of a deep scope", re.fullmatch(said, found))
 
 
 def main():
     with Tries(asked(__doc__, stop=False).stop) as tries:
-        for check in (make_sets, try_rows, try_many_missing, try_options, try_damage, try_deep):
-            check(tries)
+        tries.make_sets()
+        for check in (tries.try_rows, tries.try_many_missing, tries.try_options, tries.try_damage, tries.try_deep):
+            check()
 
 
 if __name__ == "__main__":

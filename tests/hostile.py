@@ -16,7 +16,7 @@ import re
 import resource
 import subprocess
 
-from tally import TOP, Tally, asked, executable, module_of, parts_in, run_script, tables_in, timed, written
+from tally import TOP, Tally, asked, executable, module_of, parts_in, tables_in, timed, written
 from acpidis_tools.asl.blocks import Block, Reader
 from acpidis_tools.asl.names import said_by
 from acpidis_tools.errors import read_errors
@@ -34,7 +34,6 @@ SAMPLES = {"pages": PAGES_FILES, "hostile": HOSTILE_FILES, "runs": RUNS_FILES, *
 
 
 def head_of(file: str, signature: str, revision: int = 2) -> str:
-    """The line of a table."""
     names = f'Table "{file}" "{signature}" Length 67 Revision {revision} Oem "TEST  " "EXAMPLE "'
     return f'{names} 00000001 Creator "TEST" 00000001\n'
 
@@ -65,85 +64,10 @@ for what, lines in parts_in("hostile.txt")[1:]:
 LOOKED_FOR = re.compile("names|scopes|calls|brackets|segments|Raw|digits")
 
 
-def run(script: str, *words: object, printed: int = subprocess.DEVNULL, **variables: str) -> tuple:
-    """The status, standard error and the seconds of processor time of a script."""
-    bound = lambda: resource.setrlimit(resource.RLIMIT_AS, (MOST_MEMORY, MOST_MEMORY))
-    how = {"stdout": printed, "env": {**os.environ, **variables}, "preexec_fn": bound}
-    done, seconds = timed(run_script, script, *words, most=SECONDS, **how)
-    return done.returncode, done.stderr, seconds
-
-
-def check_texts(checks: Tally, room: pathlib.Path) -> None:
-    file = room / "text"
-    fake = executable(room / "acpidis", f"#!/bin/sh\nexec cat '{file}'\n")
-    spoken = set()
-    for what, text in TEXTS.items():
-        file.write_text(text)
-        trials = [("page.py", file), ("facts.py", "--jobs", "1", file, room / "facts"), ("asl.py", "--edit", file, room / "asl")]
-        trials += [("calls.py", room), ("missing.py", room)] if LOOKED_FOR.search(what) else []
-        for script, *words in trials:
-            with open(room / "printed", "w+b") as printed:
-                status, said, seconds = run(script, *words, printed=printed.fileno(), ACPIDIS=str(fake))
-                made = {"facts.py": room / "facts", "asl.py": room / "asl"}.get(script)
-                spoken.update([script] if printed.tell() or made and made.exists() else [])
-            # It took its text, or said in a line why not.
-            is_line = said.count("\n") == 1 and len(said) < 500
-            is_word = is_line and said.startswith(f"acpidis-{script.removesuffix('.py')}: ")
-            is_good = status in (0, 3) or status in (1, 2) and is_word
-            checks.is_so(f"{script}, {what}: status {status}, {said[:500]}", is_good)
-            checks.is_so(f"{script}, {what}: {seconds:.1f} seconds", seconds < SECONDS)
-    for script in ("page.py", "facts.py", "asl.py"):
-        checks.is_so(f"{script} tells of none of the texts", script in spoken)
-
-
-def check_outputs(checks: Tally, room: pathlib.Path) -> None:
-    """Files of errors that are others, and outputs that take nothing."""
-    text, errors = room / "text", room / "errors"
-    body = ["Method (\\AAAA, 0, NotSerialized, 0) {", "  Raw {A4, 5A, 5A, 5A, 5A}", "}"]
-    text.write_text(text_of(["\\AAAA Method 0"], body))
-    lines = {
-        "of another set": "acpidis: body \\BBBB: UnknownName at 0\n", "of another tool": "a line\n" * 9, "empty": "",
-        "twice": "acpidis: body \\AAAA: UnknownName at 1\n" * 2, "changed": "acpidis: body \\AAAA: \n",
-        "large": "x" * 300_000_000,
-    }
-    for what, said_there in lines.items():
-        errors.write_text(said_there)
-        for script, more in (("page.py", []), ("facts.py", [room / "facts"])):
-            status, said, _ = run(script, "--errors", errors, text, *more)
-            is_named = "errors" in said or script == "facts.py"
-            wanted = (0,) if not said_there and script == "facts.py" else (1,)
-            checks.is_so(f"{script}, errors {what}: {status}, {said}", status in wanted and (status == 0 or is_named))
-    checks.fills_disk("page.py", text)
-    checks.fills_disk("facts.py", "--json", text)
-    for script in sorted(file.name for file in TOP.glob("examples/*.py")):
-        said = f"acpidis-{script.removesuffix('.py')}: cannot write: Bad file descriptor\n"
-        how = {"stdout": None, "preexec_fn": lambda: os.close(1)}
-        checks.says(f"{script}, a closed output", [script, "--help"], 2, said, **how)
-
-
-def check_files(checks: Tally, room: pathlib.Path) -> None:
-    """The rows of tests/outputs.txt. Unbuffered, a write of a part must not pass for one of the whole."""
-    room = written(room / "files", {"dump": table(b"DSDT", b"\x08NAM1\x0D" + b"x" * 9000 + b"\0\x08NAM2\1")})
-    (room / "text").write_text(text_of([], ["Noop"] * 1000))
-    os.mkfifo(room / "fifo")
-    bound = lambda: resource.setrlimit(resource.RLIMIT_FSIZE, (4096, 4096))
-    for row, said in (line.split("  # ") for line in tables_in("outputs.txt")[0]):
-        script, *words = row.split()
-        with open(room / "printed", "wb") as printed:
-            how = {"stdout": printed, "cwd": room, "preexec_fn": bound, "env": {**os.environ, "PYTHONUNBUFFERED": "1"}}
-            checks.says(row, [script, *words], 2, f"acpidis-{script.removesuffix('.py')}: {said}\n", timeout=20, **how)
-    for place in ("/dev/stdin", "/proc/self/fd/0"):
-        said = f"acpidis-show: {place!r} declares no such path\n"
-        checks.says(f"a pipe as {place}", ["show.py", place, "AAAA"], 1, said, input=(room / "text").read_text())
-    checks.is_same("what is left of the parts", sorted(os.listdir(room)), ["dump", "fifo", "new", "printed", "text"])
-
-
 def mutated(lines: list, dice: random.Random) -> str:
     lines = lines.copy() or [""]
     for _ in range(dice.randint(1, 3)):
-        at = dice.randrange(len(lines))
-        words = re.split(r"(\W)", lines[at])
-        kind = dice.randrange(6)
+        at, kind = dice.randrange(len(lines)), dice.randrange(6)
         if kind == 0:
             del lines[at]
         elif kind == 1:
@@ -151,6 +75,7 @@ def mutated(lines: list, dice: random.Random) -> str:
         elif kind == 2:
             lines[at] = dice.choice(lines)
         elif kind == 3:
+            words = re.split(r"(\W)", lines[at])
             words[dice.randrange(len(words))] = dice.choice(re.split(r"(\W)", dice.choice(lines)))
             lines[at] = "".join(words)
         else:
@@ -174,36 +99,102 @@ def make_asl(text: pathlib.Path) -> None:
     [block.text(reader.rows, said_by(reader.blocks)) for block in reader.blocks]
 
 
-def check_mutations(checks: Tally, count: int) -> None:
-    """Damaged listings are read, or are no listings."""
-    outcomes = [run_dumps(dumps_of(files), Options(any_run=True)) for files in SAMPLES.values()]
-    dice, refused = random.Random(0), 0
-    for number in range(count):
-        outcome = outcomes[number % len(outcomes)]
-        text = mutated(outcome.out.splitlines(), dice)
-        errors = mutated(outcome.err.splitlines(), dice).encode("ascii", "replace")
-        data, file = text.encode("ascii", "replace"), checks.text("mutated", text)
-        for make, *words in (
-            (facts_script.facts_of, data, errors), (make_page, data, errors, number % 3 == 0), (make_asl, file)
-        ):
-            fault = None
-            try:
-                make(*words)
-            except NoListing:
-                refused += make is make_asl
-            except Exception as caught:  # whatever it is, it fails the check
-                fault = repr(caught)
-            checks.is_so(f"mutation {number}, {make.__name__}: {fault}\n{text}", not fault)
-    checks.is_so(f"{refused} of {count} are no listings", count / 25 < refused < 24 * count / 25)
+class Checks(Tally):
+    def bounded(self, script: str, *words: object, printed: int = subprocess.DEVNULL, **variables: str) -> tuple:
+        """The status, standard error and the seconds of processor time of a script."""
+        bound = lambda: resource.setrlimit(resource.RLIMIT_AS, (MOST_MEMORY, MOST_MEMORY))
+        how = {"stdout": printed, "env": {**os.environ, **variables}, "preexec_fn": bound}
+        done, seconds = timed(self.run, script, *words, most=SECONDS, **how)
+        return done.returncode, done.stderr, seconds
+
+    def check_texts(self) -> None:
+        fake = executable(self.room / "acpidis", f"#!/bin/sh\nexec cat '{self.room}/text'\n")
+        spoken = set()
+        for what, text in TEXTS.items():
+            self.text("text", text)
+            trials = ["page.py text", "facts.py --jobs 1 text facts", "asl.py --edit text asl"]
+            trials += ["calls.py .", "missing.py ."] if LOOKED_FOR.search(what) else []
+            for script, *words in map(str.split, trials):
+                name = script.removesuffix(".py")
+                with open(self.room / "printed", "w+b") as printed:
+                    status, said, seconds = self.bounded(script, *words, printed=printed.fileno(), ACPIDIS=str(fake))
+                    spoken.update([script] if printed.tell() or (self.room / name).exists() else [])
+                # It took its text, or said in a line why not.
+                is_good = status in (0, 3) or status in (1, 2) and re.fullmatch(f"acpidis-{name}: .{{,480}}\n", said)
+                self.is_so(f"{script}, {what}: status {status}, {said[:500]}", is_good)
+                self.is_so(f"{script}, {what}: {seconds:.1f} seconds", seconds < SECONDS)
+        for script in ("page.py", "facts.py", "asl.py"):
+            self.is_so(f"{script} tells of none of the texts", script in spoken)
+
+    def check_outputs(self) -> None:
+        """Files of errors that are others, and outputs that take nothing."""
+        body = ["Method (\\AAAA, 0, NotSerialized, 0) {", "  Raw {A4, 5A, 5A, 5A, 5A}", "}"]
+        self.text("text", text_of(["\\AAAA Method 0"], body))
+        lines = {
+            "of another set": "acpidis: body \\BBBB: UnknownName at 0\n", "of another tool": "a line\n" * 9,
+            "twice": "acpidis: body \\AAAA: UnknownName at 1\n" * 2, "changed": "acpidis: body \\AAAA: \n",
+            "empty": "", "large": "x" * 300_000_000,
+        }
+        for what, said_there in lines.items():
+            self.text("errors", said_there)
+            status, said, _ = self.bounded("page.py", "--errors", "errors", "text")
+            self.is_so(f"page.py, errors {what}: {status}, {said}", status == 1 and "errors" in said)
+            status, said, _ = self.bounded("facts.py", "--errors", "errors", "text", "facts")
+            self.is_same(f"facts.py, errors {what}: {said}", status, int(bool(said_there)))
+        self.fills_disk("page.py", "text")
+        self.fills_disk("facts.py", "--json", "text")
+        for script in sorted(file.name for file in TOP.glob("examples/*.py")):
+            words, said = [script, "--help"], "cannot write: Bad file descriptor"
+            how = {"stdout": None, "preexec_fn": lambda: os.close(1)}
+            self.refuses(f"{script}, a closed output", words, said, 2, **how)
+
+    def check_files(self) -> None:
+        """The rows of tests/outputs.txt. Unbuffered, a write of a part must not pass for one of the whole."""
+        files = {"dump": table(b"DSDT", b"\x08NAM1\x0D" + b"x" * 9000 + b"\0\x08NAM2\1")}
+        room, text = written(self.room / "files", files), text_of([], ["Noop"] * 1000)
+        self.text("files/text", text)
+        os.mkfifo(room / "fifo")
+        bound = lambda: resource.setrlimit(resource.RLIMIT_FSIZE, (4096, 4096))
+        for row, said in (line.split("  # ") for line in tables_in("outputs.txt")[0]):
+            with open(room / "printed", "wb") as printed:
+                how = {"stdout": printed, "cwd": room, "env": {**os.environ, "PYTHONUNBUFFERED": "1"}}
+                self.refuses(row, row.split(), said, 2, timeout=20, preexec_fn=bound, **how)
+        for place in ("/dev/stdin", "/proc/self/fd/0"):
+            words, said = ["show.py", place, "AAAA"], f"{place!r} declares no such path"
+            self.refuses(f"a pipe as {place}", words, said, input=text)
+        left = ["dump", "fifo", "new", "printed", "text"]
+        self.is_same("what is left of the parts", sorted(os.listdir(room)), left)
+
+    def check_mutations(self, count: int) -> None:
+        """Damaged listings are read, or are no listings."""
+        outcomes = [run_dumps(dumps_of(files), Options(any_run=True)) for files in SAMPLES.values()]
+        dice, refused = random.Random(0), 0
+        for number in range(count):
+            outcome = outcomes[number % len(outcomes)]
+            text = mutated(outcome.out.splitlines(), dice)
+            errors = mutated(outcome.err.splitlines(), dice).encode("ascii", "replace")
+            data, file = text.encode("ascii", "replace"), self.text("mutated", text)
+            for make, *words in (
+                (facts_script.facts_of, data, errors), (make_page, data, errors, number % 3 == 0), (make_asl, file)
+            ):
+                fault = None
+                try:
+                    make(*words)
+                except NoListing:
+                    refused += make is make_asl
+                except Exception as caught:  # whatever it is, it fails the check
+                    fault = repr(caught)
+                self.is_so(f"mutation {number}, {make.__name__}: {fault}\n{text}", not fault)
+        self.is_so(f"{refused} of {count} are no listings", count / 25 < refused < 24 * count / 25)
 
 
 def main() -> None:
     count = asked(__doc__, mutations=500).mutations
-    with Tally() as checks:
-        check_texts(checks, checks.room)
-        check_outputs(checks, checks.room)
-        check_files(checks, checks.room)
-        check_mutations(checks, count)
+    with Checks() as checks:
+        checks.check_texts()
+        checks.check_outputs()
+        checks.check_files()
+        checks.check_mutations(count)
 
 
 if __name__ == "__main__":

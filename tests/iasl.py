@@ -8,7 +8,7 @@ from collections import namedtuple
 # What a keyword of ASL is in our words
 LINES = (pathlib.Path(__file__).parent / "iasl.txt").read_text().splitlines()[1:]
 KEYWORDS = dict(line.split(" ", 1) for line in LINES)
-FIELD = re.compile(r"^ *(?:Index|Bank)?Field \((.*)\)$")
+FIELD = re.compile(r"^ *(?:Index|Bank)?Field \((.*)\)$", re.M)
 SPACE = re.compile(r"OperationRegion \([\\^]*(\S+), ([^,]+),")
 # A unit of a field list, or a gap without a name
 UNIT = re.compile(r"^ +([A-Z_0-9]{0,4}), +(\d+)")
@@ -36,7 +36,7 @@ def facts_of(data: bytes, room: pathlib.Path) -> "dict[str, list] | None":
         "UUIDs": [found.lower() for found in re.findall(r'ToUUID \("([^"]*)"\)', text)],
         "EISA ids": re.findall(r'EisaId \("([^"]*)"\)', text),
         "spaces": [f"{name.rpartition('.')[2].ljust(4, '_')} {space}" for name, space in SPACE.findall(text)],
-        "flags": [", ".join(form[1].split(", ")[-3:]) for form in map(FIELD.match, text.splitlines()) if form],
+        "flags": [", ".join(words.split(", ")[-3:]) for words in FIELD.findall(text)],
         "units": list(units(bare)),
     }
 
@@ -53,13 +53,9 @@ def enclosed(text: str, heads: str):
 
 def units(text: str):
     """The named units of field lists with their first bits and widths."""
-    bit, is_inside = 0, False
-    for line in text.splitlines():
-        if FIELD.match(line):
-            bit, is_inside = 0, True
-        elif is_inside and line.strip() == "}":
-            is_inside = False
-        elif is_inside:
+    for _, lines in re.findall(FIELD.pattern + r"\n((?:.*\n)*?) *\}", text, re.M):
+        bit = 0
+        for line in lines.splitlines():
             unit, offset = UNIT.match(line), re.match(r" +Offset \((0x[0-9A-F]+)\)", line)
             if unit and unit[1]:
                 yield f"{unit[1].ljust(4, '_')} {bit} {unit[2]}"

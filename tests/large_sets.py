@@ -10,7 +10,6 @@ written down here, after docs/listing.md, docs/limits.md and docs/names.md. The 
 """
 
 import concurrent.futures
-import dataclasses
 import gc
 import itertools
 import os
@@ -130,7 +129,7 @@ def by_workers(name, *codes, runs=(LIST_RUNS, CHECK_RUNS)):
     for options in runs:
         outcome = run(dumps_of(files), options)
         for workers in WORKERS:
-            yield Trial(name, files, dataclasses.replace(options, workers=workers), outcome)
+            yield Trial(name, files, options._replace(workers=workers), outcome)
 
 
 def below_maybes():

@@ -1,15 +1,14 @@
 #!/usr/bin/env python3
 """Compares the library for C, and Python over it, with the program: text, error lines and status, byte for byte.
 
-    python3 tests/library_c.py [--sets N] [--cost] [PROGRAM] [FOLDER ..]
+    python3 tests/library_c.py [--sets N] [PROGRAM] [FOLDER ..]
 
 PROGRAM is out/acpidis if left out, and each FOLDER is a folder of dumps of your own, or one that holds such folders.
 The library is linked of crates/acpidis_c, which is built first where that is needed. The example of the manual page
 and the calls of tests/library_c.c are compiled by gcc and clang, without a warning, and run plainly, under valgrind
 and with the address sanitizer, and the memory of a set by itself (tests/library_heap.c). A call takes at most 1.05 of
 the program's instructions. Python loads made-up sets of tests/oracle, with the options that come with each. A tool
-that isn't there is a row that fails. With --cost it is only said which processor time calls take beside the program.
-The last line is 'N passed, M failed'.
+that isn't there is a row that fails. The last line is 'N passed, M failed'.
 """
 
 import ast
@@ -22,9 +21,8 @@ import re
 import shutil
 import subprocess
 import sys
-import time
 
-from tally import DEMO, PROGRAM, TOP, Tally, asked, timed, written
+from tally import DEMO, PROGRAM, TOP, Tally, asked, written
 from compare import laid
 from made_aml import device, each, method, mixed, scope, segment, tables
 from made_sets import SetMaker
@@ -42,7 +40,6 @@ OPTIONS = ((), ("--any-run",), ("--any-run", "--unknown-zero"), ("--any-sum", "-
 SEED = 0
 # A call may take this many times what the program takes.
 MOST_COST = 1.05
-RUNS = 25
 # The program says of a longer file of counts that it can't be read.
 MOST_COUNTS = 16_777_216
 
@@ -231,13 +228,6 @@ def try_page(checks, acpidis, room):
     checks.is_so(f"the page: {ran.stdout.decode()}{ran.stderr.decode()}", good)
 
 
-def both_ways(checks, room, lib, program, folder):
-    """The words for the program with one worker, and for the example, which opens a set, takes its text and closes it."""
-    example = room / "example"
-    compiled(checks, "gcc", "-std=c99", "-O2", *STRICT, LIBRARY / "example.c", *shared(lib), "-o", example)
-    return (program, "--workers", "1", "--any-run", folder), (example, "--any-run", folder)
-
-
 def devices(count):
     """So many methods, 20 in each Device of a bus, which name a method beside them and one at the root."""
     bodies = (b"\x70" + segment((number + 1) % 20) + b"\x60\xa4GLOB" for number in range(20))
@@ -247,36 +237,20 @@ def devices(count):
 
 
 def try_cost(checks, room, lib, program):
-    """The instructions of a call beside those of the program."""
-    folder = written(room / "devices", devices(10_000))
+    """The instructions of the example, which opens a set, takes its text and closes it, beside those of the program with
+    one worker."""
+    folder, example = written(room / "devices", devices(10_000)), room / "example"
+    compiled(checks, "gcc", "-std=c99", "-O2", *STRICT, LIBRARY / "example.c", *shared(lib), "-o", example)
     counts = []
-    for words in both_ways(checks, room, lib, program, folder):
-        ran = run("valgrind", "--tool=callgrind", f"--callgrind-out-file={room / 'counts'}", *words)
+    for words in (program, "--workers", "1"), (example,):
+        ran = run("valgrind", "--tool=callgrind", f"--callgrind-out-file={room / 'counts'}", *words, "--any-run", folder)
         counts.append(int((re.search(rb"Collected : (\d+)", ran.stderr) or [0, 0])[1]))
     print("instructions of the program, and of a call of the library: %d, %d" % tuple(counts))
     checks.is_so(f"what a call takes: {counts}", 0 < counts[1] <= MOST_COST * counts[0])
 
 
-def show_cost(checks, room, lib, program, folders):
-    """Says what calls take beside the program: the best of some runs, the two in turn, and the one in the middle."""
-    unseen = {"stdout": subprocess.DEVNULL, "stderr": subprocess.DEVNULL, "check": False}
-    for folder in folders:
-        ways = both_ways(checks, room, lib, program, folder)
-        times = zip(*([timed(subprocess.run, words, **unseen)[1] for words in ways] for _ in range(RUNS)))
-        theirs, ours = map(sorted, times)
-        for what, at in ("best", 0), ("middle", RUNS // 2):
-            ratio = ours[at] / theirs[at]
-            print(f"{folder}, {what}: program {theirs[at] * 1000:.1f} ms, library {ours[at] * 1000:.1f} ms, {ratio:.3f}")
-    acpidis = importlib.import_module("acpidis")
-    files = {"dsdt.dat": (DEMO / "dsdt.dat").read_bytes()}
-    begin = time.process_time()
-    for _ in range(1000):
-        acpidis.load(files)
-    print(f"the smallest set, by Python: {time.process_time() - begin:.3f} ms")
-
-
 def main():
-    words = asked(__doc__, sets=150, cost=False, program=PROGRAM, folders=())
+    words = asked(__doc__, sets=150, program=PROGRAM, folders=())
     program = words.program
     with Tally() as checks:
         room = checks.room
@@ -285,9 +259,6 @@ def main():
         # Those that are given, or the folders directly in them
         given = [sorted(it for it in folder.iterdir() if it.is_dir()) or [folder] for folder in words.folders]
         folders = [DEMO, *itertools.chain.from_iterable(given)]
-        if words.cost:
-            show_cost(checks, room, lib, program, folders)
-            sys.exit()
         acpidis = importlib.import_module("acpidis")
         try_edge(checks, room, lib, program)
         try_heap(checks, room)

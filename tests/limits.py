@@ -37,7 +37,6 @@ ENOUGH = 3
 
 
 def ended(*words, **more):
-    """How a command ends."""
     how = {"stdin": subprocess.DEVNULL, "capture_output": True, "text": True, "errors": "replace", "check": False}
     ran = subprocess.run(words, **how, **more)
     return Outcome(ran.returncode, ran.stdout, ran.stderr)

@@ -17,13 +17,15 @@ import itertools
 import re
 import sys
 
-from tally import TOP, Tally, tables_in
+from tally import TOP, Tally, first_difference, tables_in
 
 PAGE = TOP / "docs/meaning.md"
 HEAD = TOP / "tests/meaning_words.md"
 # The parts of the page, as that text says
 *PARTS, ADDED, PRINTED, (FAULTS, FAULT_TYPES) = (tuple(line.split(" | ")) for line in tables_in("meaning.txt")[0])
 FAULT_TYPES = FAULT_TYPES.split()
+# A line `use`: a module with another name, or names of it
+USE = re.compile(r"^use ([^\s{]+?)(?: as (\S+)|\.\{(.*)\})\n", re.M)
 LINES_A_MINUTE = 22
 ROWS_A_MINUTE = 40
 # So many lines of a definition, or more, that begin or end with ∷ are rows of a table.
@@ -41,18 +43,14 @@ class File:
 
     def __init__(self, path):
         self.crate, self.name = path.parts[-3], path.stem
-        self.imports, self.aliases, self.definitions = {}, {}, []
-        lines = path.read_text().split("\n")
-        uses = [line for line in lines if line.startswith("use ")]
-        for line in uses:
-            module, _, words = line[4:].partition(".{")
-            for word in words.rstrip("}").split(", ") if words else []:
-                self.imports[word.split(" as ")[-1]] = (module, word.split(" as ")[0])
-            if not words:
-                self.aliases[module.split(" as ")[1]] = module.split(" as ")[0]
-        self.groups = 0
+        self.imports, self.aliases, self.definitions, self.groups = {}, {}, [], 0
+        for module, alias, words in USE.findall(path.read_text()):
+            pairs = [word.partition(" as ") for word in words.split(", ") if word]
+            self.imports |= {other or name: (module, name) for name, _, other in pairs}
+            self.aliases |= {alias: module} if alias else {}
+        lines = USE.sub("", path.read_text()).split("\n")
         first = next(number for number, line in enumerate(lines) if not line.startswith("--"))
-        self.add([line for line in lines[first:] if line not in uses], [], (self, tuple(lines[:first])))
+        self.add(lines[first:], [], (self, tuple(lines[:first])))
 
     def add(self, lines, around, section):
         for block in paragraphs(lines, 2 if around else 0):
@@ -199,7 +197,6 @@ class Sources:
         items += [item] if item not in items else []
 
     def types_in(self, it):
-        """The types that a type is made of."""
         for name in [name for name in it.words() if name != it.name]:
             form = rf"^(?:pub )?use (\w+)::(?:\w+::)*(?:\{{[^}}]*\b{name}\b[^}}]*\}}|{name};)"
             crates = [it.crate, *re.findall(form, it.uses, re.MULTILINE), *sorted(crate for crate, n in self.types if n == name)]
@@ -224,17 +221,9 @@ def topmost_first(roots, parts_of):
 
 def in_groups(definitions):
     """Definitions with those of a group together, as they stand in their file, and each group before what it is made of."""
-    parted = set()
-    while True:
-        key = lambda it: it if it.group in parted else it.group
-        groups = {key(it): [d for d in it.file.definitions if d in definitions and key(d) == key(it)] for it in definitions}
-        uses = lambda group: [key(used) for it in groups[group] for used in it.uses if used in definitions and key(used) != group]
-        order = [it for group in topmost_first(list(groups), uses) for it in groups[group]]
-        # Groups that are made of each other can't stay together.
-        late = {it.group for number, it in enumerate(order) for used in it.uses if used in order[:number] and used.group != it.group}
-        if not late - parted:
-            return order
-        parted |= late
+    groups = {it.group: [d for d in it.file.definitions if d in definitions and d.group == it.group] for it in definitions}
+    uses = lambda group: [used.group for it in groups[group] for used in it.uses if used in definitions]
+    return [it for group in topmost_first(list(groups), uses) for it in groups[group]]
 
 
 class Page:
@@ -362,8 +351,7 @@ def main():
     if "--write" in sys.argv:
         PAGE.write_text(text)
     there = PAGE.read_text() if PAGE.exists() else ""
-    lines = zip(text.split("\n"), there.split("\n"))
-    other = next((f"{number}: {here}" for number, (here, old) in enumerate(lines, 1) if here != old), "behind its last line")
+    other = first_difference(there.split("\n"), text.split("\n"))
     lost = [word for _, names in [*PARTS, ADDED, PRINTED] for word in sources.named(names)[1]]
     cells = re.findall(r"^\| (`.*?`) \|", head.split("\n## ")[-1], re.MULTILINE)
     words = {word for cell in cells for word in re.findall(r"`([^` ]+)[^`]*`", cell.replace("\\|", "|"))}
@@ -378,7 +366,7 @@ def main():
     checks.is_so(f"tests/meaning_words.md has what the page never uses: {unused}", not unused)
     for source, block in quoted or [("tests/meaning_words.md", "a quotation of a source")]:
         checks.is_so(f"tests/meaning_words.md: {source} has not\n{block}", block in (TOP / source).read_text())
-    checks.is_so(f"docs/meaning.md is made anew by --write; it differs in line {other}", there == text)
+    checks.is_so(f"docs/meaning.md is made anew by --write; it differs at {other}", there == text)
     checks.end()
 
 

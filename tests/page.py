@@ -42,12 +42,14 @@ class Checks(Tally):
         """These are the values of that part of tests/page.txt."""
         self.is_same(what, got, [ast.literal_eval(line) for line in TOLD[what].splitlines()])
 
+    def listed(self, name: str, files: dict) -> Outcome:
+        return run_folder(written(self.room / name, files), Options())
+
     def page(self, outcome: Outcome, *words: str) -> str:
         listing, errors = self.text("text", outcome.out), self.text("errors", outcome.err)
         return self.says("status and errors of a page", ["page.py", "--errors", errors, *words, listing], 0)
 
     def check_set(self, what: str, folder: pathlib.Path, options: Options, outcome: Outcome) -> Read:
-        """Checks the page of a set."""
         self.is_same(f"{what} is taken", outcome.status != REFUSED, True)
         read = read_page(self.page(outcome))
         self.is_same(f"the names of {what}", first_difference(read.told(), Teller(folder, options).told), None)
@@ -63,7 +65,7 @@ class Checks(Tally):
         other = read_page(page(sheet))
         for part in ("names", "lines", "uses", "rows", "notes", "says"):
             self.is_same(f"the {part} of {what}, packed", getattr(other, part), getattr(read, part))
-        self.is_same(f"the anchors of {what}, packed", sorted({*other.anchors, "uses"}), sorted({*read.anchors, "uses"}))
+        self.is_same(f"the anchors of {what}, packed", {*other.anchors, "uses"}, {*read.anchors, "uses"})
 
     def check_frame(self, what: str, read: Read, outcome: Outcome) -> None:
         """Anchors, links, elements and lines."""
@@ -92,143 +94,136 @@ class Checks(Tally):
         shown = [note[5:].partition(",")[0] for note in read.notes if note.startswith("raw: ")]
         self.is_same(f"faults of {what}", shown, faults)
 
+    def check_hostile(self, read: Read) -> None:
+        """The hostile set's files and hardware names. That its texts come out as text is checked by its lines."""
+        files = [it for it in read.cells if ".dat" in it or "onload" in it]
+        wanted = [name.replace("\n", "\\x0A").replace('"', "\\x22") for name in sorted(HOSTILE_FILES)]
+        self.is_same("names of files", files, wanted)
+        self.is_told("what is said of numbers", read.says)
+        self.is_told("the name at a fault", [note for note in read.notes if note.startswith("raw")])
 
-def check_hostile(checks: Checks, read: Read) -> None:
-    """The hostile set's files and hardware names. That its texts come out as text is checked by its lines."""
-    files = [pages_file for pages_file in read.cells if ".dat" in pages_file or "onload" in pages_file]
-    wanted = [name.replace("\n", "\\x0A").replace('"', "\\x22") for name in sorted(HOSTILE_FILES)]
-    checks.is_same("names of files", files, wanted)
-    checks.is_told("what is said of numbers", read.says)
-    checks.is_told("the name at a fault", [note for note in read.notes if note.startswith("raw")])
+    def check_runs(self, read: Read) -> None:
+        """The names and rows of the set with code outside methods that differ by the run."""
+        marks = [(path, *row) for path, row in read.rows.items() if path in ("\\FOO_", "\\DEV0", "\\DEV0.LATE")]
+        self.is_told("rows by the run", marks)
+        told = read.told()
+        self.is_told("a name that means a maybe, or what stands further up", [it[1:] for it in told if it[0] == "FOO_"])
+        far = [it[1:3] for it in told if it[0] in ("COND", "\\RP99")]
+        self.is_told("code in front of a nearer declaration", far)
+        notes = [note for note in read.notes if " of " in note or note.startswith("raw")]
+        self.is_told("declarations and bodies of one path", notes)
 
+    def check_comparison(self) -> None:
+        """A set beside one whose DSDT adds a name, lacks a method and changes a name, and beside itself."""
+        code = SETS["mine"][0].replace(b"BAR_\x0A\x05", b"BAR_\x0A\x06")
+        code = code.replace(b"\x14\x0BCALL\x00\xA4ZZZZ", b"\x08NEW_\x0D<b>\x00")
+        one = self.listed("one", PAGES_FILES)
+        two = self.listed("two", {**PAGES_FILES, "dsdt.dat": table(b"DSDT", code)})
+        html = self.page(one, "--compare", self.text("other & <b>", two.out))
+        found = re.findall(r"<li class=(\w+)>.*?(\\\w+)</", html)
+        self.is_same("what differs", found, [("added", "\\NEW_"), ("lacking", "\\CALL"), ("changed", "\\BAR_")])
+        self.is_same("elements of a comparison", read_page(html).elements - ELEMENTS, set())
+        same = self.page(one, "--compare", self.text("other", one.out))
+        self.is_same("what differs from itself", re.findall("<li class=", same), [])
 
-def check_runs(checks: Checks, read: Read) -> None:
-    """The names and rows of the set with code outside methods that differ by the run."""
-    marks = [(path, *row) for path, row in read.rows.items() if path in ("\\FOO_", "\\DEV0", "\\DEV0.LATE")]
-    checks.is_told("rows by the run", marks)
-    told = read.told()
-    checks.is_told("a name that means a maybe, or what stands further up", [it[1:] for it in told if it[0] == "FOO_"])
-    far = [it[1:3] for it in told if it[0] in ("COND", "\\RP99")]
-    checks.is_told("code in front of a nearer declaration", far)
-    notes = [note for note in read.notes if " of " in note or note.startswith("raw")]
-    checks.is_told("declarations and bodies of one path", notes)
+    def check_comparison_lines(self) -> None:
+        """The lines that differ, in a method whose middle is another, and in a table."""
+        code = method(b"MAIN", 0, b"\x70\x01\x60" + b"\x70\x0A\x05\x61" + b"\x70\x60\x62" + b"\xA4\x62")
+        changed = code.replace(b"\x70\x0A\x05\x61", b"\x70\x0A\x06\x61")
+        one = self.listed("first", {"dsdt.dat": table(b"DSDT", code), "ssdt.dat": table(b"OEM5", b"")})
+        other = self.listed("second", {"dsdt.dat": table(b"DSDT", changed), "ssdt.dat": table(b"OEM6", b"")})
+        html = self.page(one, "--compare", self.text("other", other.out))
+        lines = one.out.splitlines()
+        numbers = re.findall(r"<(?:p|tr|summary) id=(\d+) class=differs>", html)
+        marked = [lines[int(number) - 1].strip() for number in numbers]
+        self.is_same("the lines that differ", marked, [lines[1], "Store (0x05, Local1)"])
+        shown = re.findall("<(ins|del)>(.*?)</", html)
+        self.is_same("both lines", shown, [("del", "  Store (0x05, Local1)"), ("ins", "  Store (0x06, Local1)")])
+        self.is_same("whose they are", "1 path that other has otherwise than" in html, True)
+        self.is_same("the other's tables", "\"OEM6\"" in html.replace("&quot;", '"'), True)
 
+    def check_differences(self) -> None:
+        """Each text stands in the differences of two, whatever both are; and large ones take no long time."""
+        chance = random.Random(0)
+        for _ in range(300):
+            here, there = (tuple(chance.choice("abcd") for _ in range(chance.randrange(8))) for _ in range(2))
+            found = differences(here, there)
+            ours = tuple(line for mark, line in found if mark != "ins")
+            theirs = tuple(line for mark, line in found if mark != "del")
+            self.is_same(f"differences of {here} and {there}", (ours, theirs), (here, there))
+        many = tuple(map(str, range(100_000)))
+        self.is_same("of long texts", len(differences(many, ("x", *many[1:-1], "y"))), 2 * len(many))
 
-def check_comparison(checks: Checks) -> None:
-    """A set beside one whose DSDT adds a name, lacks a method and changes a name, and beside itself."""
-    code = SETS["mine"][0].replace(b"BAR_\x0A\x05", b"BAR_\x0A\x06")
-    code = code.replace(b"\x14\x0BCALL\x00\xA4ZZZZ", b"\x08NEW_\x0D<b>\x00")
-    other = {**PAGES_FILES, "dsdt.dat": table(b"DSDT", code)}
-    sets = {"one": PAGES_FILES, "two": other}
-    one, two = (run_folder(written(checks.room / name, files), Options()) for name, files in sets.items())
-    html = checks.page(one, "--compare", checks.text("other & <b>", two.out))
-    found = re.findall(r"<li class=(\w+)>.*?(\\\w+)</", html)
-    checks.is_same("what differs", found, [("added", "\\NEW_"), ("lacking", "\\CALL"), ("changed", "\\BAR_")])
-    checks.is_same("elements of a comparison", read_page(html).elements - ELEMENTS, set())
-    same = checks.page(one, "--compare", checks.text("other", one.out))
-    checks.is_same("what differs from itself", re.findall("<li class=", same), [])
+    def check_only(self, outcome: Outcome) -> None:
+        """A page of a path, of a file, and of what isn't there. The levels of lines tell what stands at the path."""
+        lines = outcome.out.splitlines()
+        wanted: set[int] = set()
+        for start, line in enumerate(lines):
+            if not re.search(r"Device \(DEV0\)|Scope \(.*DEV0\)", line):
+                continue
+            level = len(line) - len(line.lstrip())
+            end = lines.index(" " * level + "}", start)
+            wanted |= set(range(start + 1, end + 2))
+            for above in range(0, level, 2):
+                head = max(at for at in range(start) if re.match(rf" {{{above}}}\w.*{{$", lines[at]))
+                wanted |= {head + 1, lines.index(" " * above + "}", end) + 1}
+        listing = self.text("whole", outcome.out)
+        for what in ("\\_SB_.PCI0.DEV0", "ssdt1 \\x22 onload=alert(1) x='&lt;"):
+            run = self.run("page.py", "--only", what, listing)
+            read = read_page(run.stdout)
+            if what[0] == "\\":
+                self.is_same(f"the lines of {what}", set(read.lines), wanted)
+            self.is_same(f"links without an anchor at {what}", read.links - set(read.anchors), set())
+            self.is_same(f"lines of {what}", [text for line, text in read.lines.items() if text != lines[line - 1]], [])
+        run = self.run("page.py", "--only", "\\NONE", listing)
+        self.is_same("only what isn't there", (run.returncode, run.stdout, run.stderr.count("\n")), (1, "", 1))
 
+    def check_names(self, outcome: Outcome) -> None:
+        """What stands on top: a name that is given, or that of the file or of its folder."""
+        text = outcome.out.replace('"EXAMPLE "', '"EX\\x00\\x00\\x00\\x00\\x00\\x00"')
+        (self.room / "host7").mkdir()
+        for words, title in (
+            ([self.text("a&b", text)], "a&amp;b: TEST EX"), ([self.text("host7/text", text)], "host7: TEST EX"),
+            (["--name", "<i>", self.text("a", text)], "&lt;i&gt;: TEST EX"),
+        ):
+            found = re.findall("<title>(.*)</title>", self.run("page.py", *words).stdout)
+            self.is_same(f"the title of {words}", found, [title])
 
-def check_comparison_lines(checks: Checks) -> None:
-    """The lines that differ, in a method whose middle is another, and in a table."""
-    one = method(b"MAIN", 0, b"\x70\x01\x60" + b"\x70\x0A\x05\x61" + b"\x70\x60\x62" + b"\xA4\x62")
-    other = one.replace(b"\x70\x0A\x05\x61", b"\x70\x0A\x06\x61")
-    texts = []
-    for name, code, count in (("first", one, 5), ("second", other, 6)):
-        files = {"dsdt.dat": table(b"DSDT", code), "ssdt.dat": table(b"OEM%d" % count, b"")}
-        texts.append(run_folder(written(checks.room / name, files), Options()))
-    html = checks.page(texts[0], "--compare", checks.text("other", texts[1].out))
-    lines = texts[0].out.splitlines()
-    marked = [lines[int(number) - 1].strip() for number in re.findall(r"<(?:p|tr|summary) id=(\d+) class=differs>", html)]
-    checks.is_same("the lines that differ", marked, [lines[1], "Store (0x05, Local1)"])
-    shown = re.findall("<(ins|del)>(.*?)</", html)
-    checks.is_same("both lines", shown, [("del", "  Store (0x05, Local1)"), ("ins", "  Store (0x06, Local1)")])
-    checks.is_same("whose they are", "1 path that other has otherwise than" in html, True)
-    checks.is_same("the other's tables", "\"OEM6\"" in html.replace("&quot;", '"'), True)
-
-
-def check_differences(checks: Checks) -> None:
-    """Each text stands in the differences of two, whatever both are; and large ones take no long time."""
-    chance = random.Random(0)
-    for _ in range(300):
-        here, there = (tuple(chance.choice("abcd") for _ in range(chance.randrange(8))) for _ in range(2))
-        found = differences(here, there)
-        ours = tuple(line for mark, line in found if mark != "ins")
-        theirs = tuple(line for mark, line in found if mark != "del")
-        checks.is_same(f"differences of {here} and {there}", (ours, theirs), (here, there))
-    many = tuple(map(str, range(100_000)))
-    checks.is_same("of long texts", len(differences(many, ("x", *many[1:-1], "y"))), 2 * len(many))
-
-
-def check_only(checks: Checks, outcome: Outcome) -> None:
-    """A page of a path, of a file, and of what isn't there. What stands at the path is told by the levels of the lines."""
-    lines = outcome.out.splitlines()
-    wanted: set[int] = set()
-    for start in (number for number, line in enumerate(lines) if re.search(r"Device \(DEV0\)|Scope \(.*DEV0\)", line)):
-        level = len(lines[start]) - len(lines[start].lstrip())
-        end = next(number for number in range(start + 1, len(lines)) if lines[number] == " " * level + "}")
-        wanted |= set(range(start + 1, end + 2))
-        for above in range(0, level, 2):
-            head = max(number for number in range(start) if re.match(f"(?! {{{above + 1}}}) {{{above}}}\\w.*{{$", lines[number]))
-            wanted |= {head + 1, next(number for number in range(end, len(lines)) if lines[number] == " " * above + "}") + 1}
-    listing = checks.text("whole", outcome.out)
-    for what in ("\\_SB_.PCI0.DEV0", "ssdt1 \\x22 onload=alert(1) x='&lt;"):
-        run = checks.run("page.py", "--only", what, listing)
-        read = read_page(run.stdout)
-        if what[0] == "\\":
-            checks.is_same(f"the lines of {what}", set(read.lines), wanted)
-        checks.is_same(f"links without an anchor at {what}", read.links - set(read.anchors), set())
-        checks.is_same(f"lines of {what}", [text for line, text in read.lines.items() if text != lines[line - 1]], [])
-    run = checks.run("page.py", "--only", "\\NONE", listing)
-    checks.is_same("only what isn't there", (run.returncode, run.stdout, run.stderr.count("\n")), (1, "", 1))
-
-
-def check_names(checks: Checks, outcome: Outcome) -> None:
-    """What stands on top: a name that is given, or that of the file or of its folder."""
-    text = outcome.out.replace('"EXAMPLE "', '"EX\\x00\\x00\\x00\\x00\\x00\\x00"')
-    (checks.room / "host7").mkdir()
-    for words, title in (
-        ([checks.text("a&b", text)], "a&amp;b: TEST EX"), ([checks.text("host7/text", text)], "host7: TEST EX"),
-        (["--name", "<i>", checks.text("a", text)], "&lt;i&gt;: TEST EX"),
-    ):
-        found = re.findall("<title>(.*)</title>", checks.run("page.py", *words).stdout)
-        checks.is_same(f"the title of {words}", found, [title])
-
-
-def check_refusals(checks: Checks, outcome: Outcome) -> None:
-    """Texts that are no listing: one line, and status 1."""
-    lines = outcome.out.splitlines(keepends=True)
-    texts = {
-        "an empty text": "", "another tool's": 'DefinitionBlock ("", "DSDT", 2, "A", "B", 1)\n{\n}\n',
-        "a check": 'Check "a" Bytes 1\n', "a text": "a listing\n", "a line that is cut": outcome.out[:-3],
-        "no ASCII": outcome.out.replace("Return", "R\xE9turn"), "21 MB": outcome.out + "  \n" * 7_000_000,
-        "no opcode": outcome.out.replace("  Return", "  Reutrn"),
-        "a line less": outcome.out.replace("    Device (PCI0) {\n", ""),
-        **{f"the first {count} lines": "".join(lines[:count]) for count in range(1, len(lines), 7)},
-    }
-    for what, text in texts.items():
-        run = checks.run("page.py", checks.text("refused", text))
-        got = run.returncode, run.stdout, run.stderr.count("\n"), run.stderr.startswith("acpidis-page: ")
-        checks.is_same(f"{what}, {run.stderr}", got, (1, "", 1, True))
-    errors = checks.text("errors", "acpidis: body \\NONE: UnknownName at 1\n")
-    for status, words in ((1, ["--errors", errors, checks.text("whole", outcome.out)]), (2, [checks.room / "none"])):
-        run = checks.run("page.py", *words)
-        checks.is_same("status of other faults", (run.returncode, run.stderr.count("\n")), (status, 1))
+    def check_refusals(self, outcome: Outcome) -> None:
+        """Texts that are no listing: one line, and status 1."""
+        lines = outcome.out.splitlines(keepends=True)
+        texts = {
+            "an empty text": "", "another tool's": 'DefinitionBlock ("", "DSDT", 2, "A", "B", 1)\n{\n}\n',
+            "a check": 'Check "a" Bytes 1\n', "a text": "a listing\n", "a line that is cut": outcome.out[:-3],
+            "no ASCII": outcome.out.replace("Return", "R\xE9turn"), "21 MB": outcome.out + "  \n" * 7_000_000,
+            "no opcode": outcome.out.replace("  Return", "  Reutrn"),
+            "a line less": outcome.out.replace("    Device (PCI0) {\n", ""),
+            **{f"the first {count} lines": "".join(lines[:count]) for count in range(1, len(lines), 7)},
+        }
+        for what, text in texts.items():
+            run = self.run("page.py", self.text("refused", text))
+            got = run.returncode, run.stdout, run.stderr.count("\n"), run.stderr.startswith("acpidis-page: ")
+            self.is_same(f"{what}, {run.stderr}", got, (1, "", 1, True))
+        errors = self.text("errors", "acpidis: body \\NONE: UnknownName at 1\n")
+        for status, words in ((1, ["--errors", errors, self.text("whole", outcome.out)]), (2, [self.room / "none"])):
+            run = self.run("page.py", *words)
+            self.is_same("status of other faults", (run.returncode, run.stderr.count("\n")), (status, 1))
 
 
 def main() -> None:
     words = asked(__doc__, sets=40, folders=())
-    more = {"the hostile set": check_hostile, "the set of runs": check_runs}
     with Checks() as checks:
+        more = {"the hostile set": checks.check_hostile, "the set of runs": checks.check_runs}
         for what, *sample in samples(checks.room, words.folders, words.sets):
             read = checks.check_set(what, *sample)
             if what in more:
-                more[what](checks, read)
-        for check in (check_comparison, check_comparison_lines, check_differences):
-            check(checks)
+                more[what](read)
+        checks.check_comparison()
+        checks.check_comparison_lines()
+        checks.check_differences()
         outcome = run_folder(checks.room / "hostile", Options())
-        for check in (check_only, check_names, check_refusals):
-            check(checks, outcome)
+        for check in (checks.check_only, checks.check_names, checks.check_refusals):
+            check(outcome)
 
 
 if __name__ == "__main__":

@@ -11,6 +11,7 @@ and in 5 seconds. It is no part of ./test. The last line is 'N passed, N failed'
 
 import argparse
 import base64
+import contextlib
 import itertools
 import json
 import os
@@ -62,10 +63,7 @@ class Browser:
 
     def receive(self) -> dict:
         while b"\0" not in self.rest:
-            piece = self.end.recv(1 << 16)
-            if not piece:
-                sys.exit("chromium ended")
-            self.rest += piece
+            self.rest += self.end.recv(1 << 16) or sys.exit("chromium ended")
         message, _, self.rest = self.rest.partition(b"\0")
         return json.loads(message)
 
@@ -120,10 +118,10 @@ class Browser:
 
     def open(self, url: str) -> float:
         """The seconds until the page is loaded and drawn."""
-        self.events = [event for event in self.events if event.get("method") != "Page.loadEventFired"]
-        started = time.monotonic()
+        loaded, started = "Page.loadEventFired", time.monotonic()
+        self.events = [event for event in self.events if event.get("method") != loaded]
         self.call("Page.navigate", url=url)
-        while not any(event.get("method") == "Page.loadEventFired" for event in self.events):
+        while not self.events_of(loaded):
             self.events.append(self.receive())
         self.settle()
         return time.monotonic() - started
@@ -165,61 +163,6 @@ class Browser:
 
 # What is done with a page, as that text says
 (_, HELPERS), *PARTS = parts_in("page_browser.txt")
-
-
-def take_steps(browser: Browser, kind: str, picture: pathlib.Path | None, checks: Tally) -> None:
-    """Does what the rows say of pages of a kind, and looks whether all holds that they tell."""
-    as_shown = lambda form: str(browser.value(form[1]))
-    browser.value(HELPERS)
-    rows = [row for head, lines in PARTS if head.startswith(f"{kind}: ") for row in lines.splitlines()]
-    for row in (row for row in rows if row and not row.startswith("//")):
-        word, _, rest = row.partition(" ")
-        if word in ("is", "comes"):
-            what, _, condition = rest.partition(": ")
-            holds = (browser.value if word == "is" else browser.until)(f"!!({condition})")
-            checks.is_so(re.sub(r"\{(.*?)\}", as_shown, what), holds)
-        elif word == "do":
-            browser.value(f"(async () => {{ {rest} }})()")
-        elif word in ("press", "click"):
-            getattr(browser, word)(rest)
-        elif word == "picture":
-            browser.picture(picture)
-        elif word == "places":
-            look_at_places(browser, checks)
-        else:
-            {"type": browser.type, "jump": browser.jump, "width": browser.width}[word](browser.value(rest))
-    complaints = [*browser.events_of("Log.entryAdded"), *browser.events_of("Runtime.exceptionThrown")]
-    checks.is_so(f"the browser's log is empty, not {complaints}", not complaints)
-
-
-def look_at_page(browser: Browser, file: pathlib.Path, picture: pathlib.Path, checks: Tally) -> None:
-    look(browser, "page", MOST_SECONDS_TO_OPEN, file, checks, picture)
-    url = file.as_uri()
-    asked = [event["request"]["url"] for event in browser.events_of("Network.requestWillBeSent")]
-    checks.is_so(f"it asks for itself alone, not {asked}", {one.partition("#")[0] for one in asked} == {url})
-    checks.is_so("it keeps no cookie", not browser.call("Network.getCookies")["cookies"])
-
-
-def look(
-    browser: Browser, kind: str, most: float, file: pathlib.Path, checks: Tally, picture: pathlib.Path | None = None
-) -> None:
-    """A page of a kind opens in time, and all holds that is told of those."""
-    seconds, size = min(browser.open(file.as_uri()) for _ in range(OPENINGS)), file.stat().st_size / 1e6
-    print(f"a page of {size:.1f} MB opened in {seconds:.2f} s")
-    checks.is_so(f"{size:.1f} MB open in {most} s, not {seconds:.2f}", seconds <= most)
-    take_steps(browser, kind, picture, checks)
-
-
-def look_at_places(browser: Browser, checks: Tally) -> None:
-    """The bar tells the path and the file after each jump."""
-    declared, wrong = browser.value("declared()"), []
-    for path in declared[:: len(declared) // MOST_JUMPS + 1]:
-        browser.jump(path)
-        if not browser.until(f"tells({json.dumps(path)})"):
-            wrong.append((path, browser.value("[file.textContent, here.textContent]")))
-    checks.is_so(f"the bar tells the place of each of {len(declared)} paths, not {wrong[:5]}", declared and not wrong)
-
-
 # What a large listing begins with, the rows and the lines of each of its devices, and what stands between them and
 # behind: NAME is a device's name, @ a digit, and ######## a number.
 HEAD, ROWS, BEGIN, DEVICE, END = re.split(r"(?<=\n)\n", (TOP / "tests/large_device.text").read_text())
@@ -244,31 +187,76 @@ OTHERS = {"0x080AD041": "0x030AD041", "LEqual": "LGreater", "QQQQ": "QQQR", 'Rev
 LARGE = {4: 2, 16: 5}
 
 
-def page_of(checks: Tally, name: str, text: str, *words: object) -> pathlib.Path:
-    """The page of a listing."""
-    made = checks.run("page.py", *words, checks.text(name, text), stderr=None, check=True)
-    return checks.text(f"{name}.html", made.stdout)
+class Looks(Tally):
+    def take_steps(self, kind: str) -> None:
+        """Does what the rows say of pages of a kind, and looks whether all holds that they tell."""
+        browser, as_shown = self.browser, lambda form: str(self.browser.value(form[1]))
+        browser.value(HELPERS)
+        rows = [row for head, lines in PARTS if head.startswith(f"{kind}: ") for row in lines.splitlines()]
+        for row in (row for row in rows if row and not row.startswith("//")):
+            word, _, rest = row.partition(" ")
+            if word in ("is", "comes"):
+                what, _, condition = rest.partition(": ")
+                holds = (browser.value if word == "is" else browser.until)(f"!!({condition})")
+                self.is_so(re.sub(r"\{(.*?)\}", as_shown, what), holds)
+            elif word == "do":
+                browser.value(f"(async () => {{ {rest} }})()")
+            elif word in ("press", "click"):
+                getattr(browser, word)(rest)
+            elif word == "picture":
+                browser.picture(self.picture)
+            elif word == "places":
+                self.look_at_places()
+            else:
+                {"type": browser.type, "jump": browser.jump, "width": browser.width}[word](browser.value(rest))
+        complaints = [*browser.events_of("Log.entryAdded"), *browser.events_of("Runtime.exceptionThrown")]
+        self.is_so(f"the browser's log is empty, not {complaints}", not complaints)
 
+    def look_at_page(self, file: pathlib.Path) -> None:
+        self.look("page", MOST_SECONDS_TO_OPEN, file)
+        asked = [event["request"]["url"] for event in self.browser.events_of("Network.requestWillBeSent")]
+        self.is_so(f"it asks for itself alone, not {asked}", {it.partition("#")[0] for it in asked} == {file.as_uri()})
+        self.is_so("it keeps no cookie", not self.browser.call("Network.getCookies")["cookies"])
 
-def look_at_all(browser: Browser, words: argparse.Namespace, checks: Tally) -> None:
-    picture = words.picture or checks.room / "page.png"
-    errors = ["--errors", words.errors.resolve()] if words.errors else []
-    for given in words.listings:
-        page = page_of(checks, "text", given.read_text(), *errors)
-        look_at_page(browser, page, picture, checks)
-    if words.listings:
-        return
-    outcome = run_folder(written(checks.room / "set", HOSTILE_FILES), Options())
-    said = checks.text("errors", outcome.err)
-    page = page_of(checks, "text", outcome.out, "--name", "a made-up set", "--errors", said)
-    look_at_page(browser, page, picture, checks)
-    other = outcome.out
-    for word, changed in OTHERS.items():
-        other = other.replace(word, changed, 1)
-    browser.open(page_of(checks, "compared", outcome.out, "--compare", checks.text("other", other)).as_uri())
-    take_steps(browser, "comparison", None, checks)
-    for size, seconds in LARGE.items():
-        look(browser, "large", seconds, page_of(checks, f"{size} MB", listing(size * 1_000_000)), checks)
+    def look(self, kind: str, most: float, file: pathlib.Path) -> None:
+        """A page of a kind opens in time, and all holds that is told of those."""
+        seconds, size = min(self.browser.open(file.as_uri()) for _ in range(OPENINGS)), file.stat().st_size / 1e6
+        print(f"a page of {size:.1f} MB opened in {seconds:.2f} s")
+        self.is_so(f"{size:.1f} MB open in {most} s, not {seconds:.2f}", seconds <= most)
+        self.take_steps(kind)
+
+    def look_at_places(self) -> None:
+        """The bar tells the path and the file after each jump."""
+        browser, wrong = self.browser, []
+        declared = browser.value("declared()")
+        for path in declared[:: len(declared) // MOST_JUMPS + 1]:
+            browser.jump(path)
+            if not browser.until(f"tells({json.dumps(path)})"):
+                wrong.append((path, browser.value("[file.textContent, here.textContent]")))
+        self.is_so(f"the bar tells the place of each of {len(declared)} paths, not {wrong[:5]}", declared and not wrong)
+
+    def page_of(self, name: str, text: str, *words: object) -> pathlib.Path:
+        made = self.run("page.py", *words, self.text(name, text), stderr=None, check=True)
+        return self.text(f"{name}.html", made.stdout)
+
+    def look_at_all(self, words: argparse.Namespace) -> None:
+        self.picture = words.picture or self.room / "page.png"
+        errors = ["--errors", words.errors.resolve()] if words.errors else []
+        for given in words.listings:
+            self.look_at_page(self.page_of("text", given.read_text(), *errors))
+        if words.listings:
+            return
+        outcome = run_folder(written(self.room / "set", HOSTILE_FILES), Options())
+        said = self.text("errors", outcome.err)
+        self.look_at_page(self.page_of("text", outcome.out, "--name", "a made-up set", "--errors", said))
+        other = outcome.out
+        for word, changed in OTHERS.items():
+            other = other.replace(word, changed, 1)
+        compared = self.page_of("compared", outcome.out, "--compare", self.text("other", other))
+        self.browser.open(compared.as_uri())
+        self.take_steps("comparison")
+        for size, seconds in LARGE.items():
+            self.look("large", seconds, self.page_of(f"{size} MB", listing(size * 1_000_000)))
 
 
 def main() -> None:
@@ -276,12 +264,8 @@ def main() -> None:
     if not shutil.which("chromium"):
         print("chromium is not there, so nothing is tried: on Debian, apt-get install chromium\n0 passed, 0 failed")
         return
-    with Tally() as checks:
-        browser = Browser(str(checks.room / "profile"))
-        try:
-            look_at_all(browser, words, checks)
-        finally:
-            browser.close()
+    with Looks() as checks, contextlib.closing(Browser(str(checks.room / "profile"))) as checks.browser:
+        checks.look_at_all(words)
 
 
 if __name__ == "__main__":

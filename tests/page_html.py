@@ -1,8 +1,8 @@
 """Reads a page of examples/page.py by Python's HTML parser, for tests/page.py."""
 
 import re
-from collections.abc import Iterator
 from html.parser import HTMLParser
+from xml.etree.ElementTree import Element, TreeBuilder
 
 from loading import path_text
 from acpidis_tools.page.sheet import BETWEEN, unpacked
@@ -11,48 +11,33 @@ from telling import Path, Told
 VOID = ("meta", "input")
 
 
-class Element:
-    """An element of a page, with the elements and texts that are inside it."""
+def is_note(element: Element) -> bool:
+    return element.get("class") == "note"
 
-    def __init__(self, tag: str, found: dict):
-        self.tag, self.found, self.inside = tag, found, []
 
-    def all(self, *tags: str) -> Iterator["Element"]:
-        """The elements in it in the order of the text, or those with one of these tags."""
-        for it in self.inside:
-            if isinstance(it, Element):
-                if not tags or it.tag in tags:
-                    yield it
-                yield from it.all(*tags)
-
-    def text(self) -> str:
-        """Its text, without that of notes and of what is said of numbers."""
-        left_out = lambda it: isinstance(it, Element) and (it.is_note() or it.tag == "small")
-        shown = [it for it in self.inside if not left_out(it)]
-        return "".join(it if isinstance(it, str) else it.text() for it in shown)
-
-    def is_note(self) -> bool:
-        return self.found.get("class") == "note"
+def text_of(element: Element) -> str:
+    """Its text, without that of notes and of what is said of numbers."""
+    shown = (("" if is_note(it) or it.tag == "small" else text_of(it)) + (it.tail or "") for it in element)
+    return (element.text or "") + "".join(shown)
 
 
 class Tree(HTMLParser):
-    """Makes the elements of a page."""
-
     def __init__(self) -> None:
         super().__init__()
-        self.open = [Element("", {})]
+        self.builder, self.open = TreeBuilder(), []
+        self.handle_starttag("page", [])
+        self.handle_data = self.builder.data
 
     def handle_starttag(self, tag: str, attrs: list) -> None:
-        self.open[-1].inside.append(Element(tag, dict(attrs)))
-        if tag not in VOID:
-            self.open.append(self.open[-1].inside[-1])
+        self.builder.start(tag, dict(attrs))
+        self.open.append(tag)
+        if tag in VOID:
+            self.handle_endtag(tag)
 
     def handle_endtag(self, tag: str) -> None:
-        while self.open.pop().tag != tag:
-            pass
-
-    def handle_data(self, data: str) -> None:
-        self.open[-1].inside.append(data)
+        closed = None
+        while closed != tag:
+            closed = self.builder.end(self.open.pop()).tag
 
 
 class Read:
@@ -60,37 +45,36 @@ class Read:
     lines, the names with what each is, and the lines in which a path is used."""
 
     def __init__(self, page: Element):
-        parts = list(page.all())
+        parts = list(page.iter())[1:]
         self.elements = {it.tag for it in parts}
-        self.attributes = [pair for it in parts for pair in it.found.items()]
+        self.attributes = [pair for it in parts for pair in it.items()]
         self.links = {value[1:] for name, value in self.attributes if name == "href" and value.startswith("#")}
-        self.anchors = [it.found["id"] for it in parts if "id" in it.found]
-        self.lines, self.names, self.notes, self.says = {}, [], [], []
-        (tree,) = (it for it in parts if it.tag == "nav")
-        self.rows = {}
-        for row in (row for row in tree.all("p", "summary") if any(row.all("a"))):
+        self.anchors = [it.get("id") for it in parts if "id" in it.attrib]
+        self.lines, self.names, self.notes, self.says, self.rows = {}, [], [], [], {}
+        (tree,) = page.iter("nav")
+        for row in (it for it in tree.iter() if it.tag in ("p", "summary") and it.find(".//a") is not None):
             # The path of a row of the tree, with its class and its small words
-            words = [small.text() for small in row.all("small") if "class" not in small.found]
+            words = [text_of(small) for small in row.iter("small") if "class" not in small.attrib]
             shown = "".join(word for word in words if not word.replace(",", "").isdigit())
-            self.rows[next(row.all("a")).found["href"][1:]] = [row.found.get("class"), shown]
-        sections = [(it.found.get("class") or it.found["id"], it) for it in parts if it.tag == "section"]
-        for line in (line for kind, it in sections if kind == "block" for line in it.all("p", "summary")):
-            self.read_line(line)
-        entries = [entry for kind, it in sections if kind == "uses" for entry in it.all("div")]
-        links = [(entry, link) for entry in entries for ul in entry.all("ul") for link in ul.all("a")]
-        self.uses = {(entry.found["id"], link.found["href"][1:]) for entry, link in links}
-        self.cells = [cell.text() for kind, it in sections if kind == "tables" for cell in it.all("td")]
+            self.rows[row.find(".//a").get("href")[1:]] = [row.get("class"), shown]
+        sections = [(it.get("class") or it.get("id"), it) for it in page.iter("section")]
+        for line in (line for kind, it in sections if kind == "block" for line in it.iter()):
+            if line.tag in ("p", "summary"):
+                self.read_line(line)
+        entries = [entry for kind, it in sections if kind == "uses" for entry in it.iter("div")]
+        self.uses = {(entry.get("id"), link.get("href")[1:]) for entry in entries for link in entry.findall(".//ul//a")}
+        self.cells = [text_of(cell) for kind, it in sections if kind == "tables" for cell in it.iter("td")]
 
     def read_line(self, line: Element) -> None:
-        number = int(line.found["id"])
-        self.lines[number] = line.text()
-        for it in line.all():
-            if it.is_note():
-                self.notes.append(it.text())
+        number = int(line.get("id"))
+        self.lines[number] = text_of(line)
+        for it in line.iter():
+            if is_note(it):
+                self.notes.append(text_of(it))
             elif it.tag in ("a", "dfn", "u"):
-                self.names.append((it.tag, it.found, it.text(), number))
+                self.names.append((it.tag, it.attrib, text_of(it), number))
             elif it.tag == "small":
-                self.says.append(it.text())
+                self.says.append(text_of(it))
 
     def told(self) -> list[Told]:
         """The names of the blocks as the independent reading tells them."""
@@ -148,7 +132,7 @@ def expanded(html: str) -> str:
 
 def read_page(html: str) -> Read:
     tree = Tree()
-    page = tree.open[0]
     tree.feed(expanded(html))
     tree.close()
-    return Read(page)
+    tree.handle_endtag("page")
+    return Read(tree.builder.close())

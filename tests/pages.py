@@ -71,31 +71,6 @@ def commands_of(page):
             yield command + re.sub(r"^> ", "", more, flags=re.MULTILINE), wanted
 
 
-def check_commands(checks, page, is_installed):
-    """Each command of a page, in its order."""
-    commands = list(commands_of(page))
-    checks.is_so(f"{page}: it has no command", commands)
-    with tempfile.TemporaryDirectory() as room:
-        make_room(pathlib.Path(room), is_installed)
-        environment = {**os.environ, "PATH": f"{room}/bin:{os.environ['PATH']}"}
-        for command, wanted in commands:
-            if is_installed:
-                command = re.sub(r"(?:python3 )?\bexamples/(\w+)\.(?:py|sh)\b", r"acpidis-\1", command)
-                command = command.replace("./acpidis", "acpidis")
-            printed = printed_by(["sh", "-c", command], cwd=room, env=environment)
-            checks.is_so(f"{page}: {command}\nprinted\n{printed}not\n{wanted}", printed == wanted)
-
-
-def check_readme(checks):
-    """README's length, and that each block which it quotes from a source stands there."""
-    text = (TOP / README).read_text()
-    quoted = re.findall(r"\(`(crates/[^`]*)`\):\n\n```[a-z]+\n(.*?)^```$", text, re.MULTILINE | re.DOTALL)
-    for source, block in quoted:
-        checks.is_so(f"{README}: {source} has not\n{block}", block in (TOP / source).read_text())
-    checks.is_so(f"{README}: it quotes {len(quoted)} sources", len(quoted) >= 3)
-    checks.is_so(f"{README}: {len(text.split())} words", len(text.split()) <= MOST_WORDS)
-
-
 def pages():
     """All pages that are written by hand, and the installed README's neighbours among them."""
     files = [TOP / README, TOP / "CONTRIBUTING.md", *TOP.glob("docs/**/*.md"), *TOP.glob("crates/*/README.md")]
@@ -119,79 +94,18 @@ def leads_nowhere(page, link):
     return "://" not in link and (not (TOP / file).exists() or anchor and anchor not in anchors_of(file))
 
 
-def check_links(checks):
-    """The links of each page; and how many pages there are, and how long."""
-    for page in pages():
-        lost = [link for link in re.findall(r"\]\(([^)\s]*)\)", prose_of(page)) if leads_nowhere(page, link)]
-        checks.is_so(f"{page}: these lead nowhere: {', '.join(lost)}", not lost)
-    own = [page for page in pages() if page.startswith("docs/") and page != MEANING]
-    words = sum(len((TOP / page).read_text().split()) for page in own)
-    most = f"{MOST_PAGES} with {MOST_WORDS_OF_PAGES} at most"
-    is_short = len(own) <= MOST_PAGES and words <= MOST_WORDS_OF_PAGES
-    checks.is_so(f"docs: {len(own)} pages with {words} words, and not {most}", is_short)
-
-
 def text_of_crate(crate, *kinds):
     return "\n".join(file.read_text() for kind in kinds for file in (TOP / "crates" / crate).glob(kind))
 
 
-def check_proofs(checks):
-    """The contracts and definitions that the page of proofs names of each crate."""
-    rows = re.findall(r"^\| (\[`\w+`\]\(.*?\)) \| (.*?) \|(.*)\|$", (TOP / PROOFS).read_text(), re.MULTILINE)
-    checks.is_so(f"{PROOFS}: it names no crate", len(rows) >= 10)
-    for links, contracts, definitions in rows:
-        crates = re.findall(r"`(\w+)`", links)
-        text = "\n".join(text_of_crate(crate, "src/**/*.rt", "specs/*.antt", "proofs/*.antt") for crate in crates)
-        names = [name.split("::")[-1] for name in re.findall(r"`([\w:]+)`", contracts + definitions)]
-        form = r"^ *[a-z ()]*\b{0}\b.*?(?: : |[(<])|\b(?:struct|enum|trait|fn|impl) {0}\b|\b{0} for\b"
-        lacking = [name for name in names if not re.search(form.format(name), text, re.MULTILINE)]
-        checks.is_so(f"{PROOFS}: {', '.join(crates)} has not {', '.join(lacking)}", not lacking)
-
-
-def check_crates(checks):
-    """That each crate has a README, and the clauses that this names."""
-    for name in re.findall(r"^(\w+)", (TOP / "crates.txt").read_text(), re.MULTILINE):
-        text = text_of_crate(name, "README.md")
-        clauses = {word for words in re.findall(r"\(((?:`\w+`(?:, )?)+)\)", text) for word in re.findall(r"\w+", words)}
-        lost = clauses - set(re.findall(r"\w+", text_of_crate(name, "src/**/*.rt", "specs/*.antt")))
-        fault = f"it has not {', '.join(sorted(lost))}" if lost else "it is missing"
-        checks.is_so(f"crates/{name}/README.md: {fault}", text and not lost)
-
-
 def words_of_sources():
     """All words of the sources and scripts, and the names of their files."""
-    kinds = "crates/*/src/**/*.rt crates/*/specs/*.antt crates/*/proofs/**/*.antt crates/*/must-fail/* crates/*/*.edits "
-    kinds += "crates/acpi_cases/std* tests/**/*.* examples/**/*.* bench/*.* library/*.* acpidis build install package test"
+    kinds = "crates/*/src/**/*.rt crates/*/specs/*.antt crates/*/proofs/**/*.antt crates/*/must-fail/* crates/*/*.edits"
+    kinds += " crates/acpi_cases/std* tests/**/*.* examples/**/*.* bench/*.* library/*.*"
+    kinds += " acpidis build install package test"
     files = [file for kind in kinds.split() for file in TOP.glob(kind) if file.is_file()]
     texts = {file: file.read_text(errors="replace") for file in files if file.suffix not in (".pyc", ".png")}
     return {word for file, text in texts.items() for word in (*re.findall(r"\w+", text), *file.parts, file.stem)}
-
-
-def check_names(checks):
-    """That some source has each name of several words that a page marks as code."""
-    known = words_of_sources() | MADE_UP
-    for page in pages():
-        names = re.findall(r"`([A-Za-z_]\w*(?:(?:::|\.)\w+)*)`", prose_of(page))
-        names = [it for it in names if re.search(r"[a-z]_[a-z]|[A-Z][a-z]", it)]
-        stale = {it for it in names for word in re.findall(r"\w+", it) if word not in known}
-        checks.is_so(f"{page}: no source has {', '.join(sorted(stale))}", not stale)
-
-
-def check_goals(checks):
-    """That each crate has the wrong bodies of its list of goals."""
-    for goals in sorted(TOP.glob("crates/*/wrong-bodies.goals")):
-        edits = "\n".join(it.read_text() for it in goals.parent.glob("*.edits"))
-        there = {it.stem for it in goals.parent.glob("must-fail/*.edit")} | set(re.findall(r"^edit: (\w+)", edits, re.M))
-        named = [line.split()[0] for line in goals.read_text().splitlines() if line[0] != "#"]
-        lost = [it for it in named if it not in there]
-        checks.is_so(f"{goals.relative_to(TOP)}: {', '.join(lost)} isn't there", not lost)
-
-
-def check_manual(checks):
-    for lint in LINTS:
-        if shutil.which(lint[0]):
-            said = printed_by([*lint, TOP / MANUAL])
-            checks.is_so(f"{MANUAL}: {lint[0]}\n{said}", not said)
 
 
 def options_in(text):
@@ -202,44 +116,125 @@ def section(manual, name):
     return "".join(re.findall(rf"^\.SH {name}\n(.*?)^\.SH", manual, re.MULTILINE | re.DOTALL)[:1])
 
 
-def check_words(checks):
-    """The options of the manual and README beside the program's, and the words of the manual and refusals.md."""
-    readme = (TOP / README).read_text().partition("\n## Options")[2].partition("\n## ")[0]
-    manual = (TOP / MANUAL).read_text().replace("\\-", "-")
-    headings = "\n".join(re.findall(r"^(?:\.BR? |acpidis: )(.*)$", section(manual, "DIAGNOSTICS"), re.MULTILINE))
-    options = options_in(printed_by([TOP / "acpidis", "--any-sum", "--help"]))
-    # The words of standard error: the first of each message in the sources, where it is one
-    form = r'(?:#\[error\("|"acpidis: |Fault::\w+(?:\(_\))? => f\.write_str\(")([^"{]+)'
-    messages = [it for source in TOP.glob("crates/*/src/**/*.rt") for it in re.findall(form, source.read_text())]
-    words = {word for message in messages for word in re.findall(r"^[A-Z][A-Za-z]+", message)}
-    cells = re.findall(r"^\| `([^`]*)`", (TOP / REFUSALS).read_text(), re.MULTILINE)
-    for name, got, wanted in [
-        ("options of the manual", options_in(section(manual, "OPTIONS")), options),
-        ("options of README", options_in(readme) | {"--help", "--version"}, options),
-        ("words of the manual", set(re.findall(r"\b[A-Z][a-z]+[A-Za-z]*\b", headings)), words),
-        ("words of refusals.md", set(re.findall(r"[A-Z][A-Za-z]+[a-z]", "\n".join(cells))), words),
-    ]:
-        checks.is_so(f"{name}: {sorted(got ^ wanted)}", got == wanted)
+class Checks(Tally):
+    def check_commands(self, page, is_installed):
+        commands = list(commands_of(page))
+        self.is_so(f"{page}: it has no command", commands)
+        with tempfile.TemporaryDirectory() as room:
+            make_room(pathlib.Path(room), is_installed)
+            environment = {**os.environ, "PATH": f"{room}/bin:{os.environ['PATH']}"}
+            for command, wanted in commands:
+                if is_installed:
+                    command = re.sub(r"(?:python3 )?\bexamples/(\w+)\.(?:py|sh)\b", r"acpidis-\1", command)
+                    command = command.replace("./acpidis", "acpidis")
+                printed = printed_by(["sh", "-c", command], cwd=room, env=environment)
+                self.is_so(f"{page}: {command}\nprinted\n{printed}not\n{wanted}", printed == wanted)
 
+    def check_readme(self):
+        """README's length, and that each block which it quotes from a source stands there."""
+        text = (TOP / README).read_text()
+        quoted = re.findall(r"\(`(crates/[^`]*)`\):\n\n```[a-z]+\n(.*?)^```$", text, re.MULTILINE | re.DOTALL)
+        for source, block in quoted:
+            self.is_so(f"{README}: {source} has not\n{block}", block in (TOP / source).read_text())
+        self.is_so(f"{README}: it quotes {len(quoted)} sources", len(quoted) >= 3)
+        self.is_so(f"{README}: {len(text.split())} words", len(text.split()) <= MOST_WORDS)
 
-def check_scripts(checks):
-    """Each check of a script, by its last line."""
-    for script in SCRIPTS:
-        *shown, last = printed_by([TOP / script], stderr=None).splitlines()
-        print("".join(f"{line}\n" for line in shown), end="")
-        passed, failed = map(int, re.fullmatch(r"(\d+) passed, (\d+) failed", last).groups())
-        checks.passed += passed
-        checks.failed += failed
+    def check_links(self):
+        """The links of each page; and how many pages there are, and how long."""
+        for page in pages():
+            lost = [link for link in re.findall(r"\]\(([^)\s]*)\)", prose_of(page)) if leads_nowhere(page, link)]
+            self.is_so(f"{page}: these lead nowhere: {', '.join(lost)}", not lost)
+        own = [page for page in pages() if page.startswith("docs/") and page != MEANING]
+        words = sum(len((TOP / page).read_text().split()) for page in own)
+        most = f"{MOST_PAGES} with {MOST_WORDS_OF_PAGES} at most"
+        is_short = len(own) <= MOST_PAGES and words <= MOST_WORDS_OF_PAGES
+        self.is_so(f"docs: {len(own)} pages with {words} words, and not {most}", is_short)
+
+    def check_proofs(self):
+        """The contracts and definitions that the page of proofs names of each crate."""
+        rows = re.findall(r"^\| (\[`\w+`\]\(.*?\)) \| (.*?) \|(.*)\|$", (TOP / PROOFS).read_text(), re.MULTILINE)
+        self.is_so(f"{PROOFS}: it names no crate", len(rows) >= 10)
+        for links, contracts, definitions in rows:
+            crates = re.findall(r"`(\w+)`", links)
+            text = "\n".join(text_of_crate(crate, "src/**/*.rt", "specs/*.antt", "proofs/*.antt") for crate in crates)
+            names = [name.split("::")[-1] for name in re.findall(r"`([\w:]+)`", contracts + definitions)]
+            form = r"^ *[a-z ()]*\b{0}\b.*?(?: : |[(<])|\b(?:struct|enum|trait|fn|impl) {0}\b|\b{0} for\b"
+            lacking = [name for name in names if not re.search(form.format(name), text, re.MULTILINE)]
+            self.is_so(f"{PROOFS}: {', '.join(crates)} has not {', '.join(lacking)}", not lacking)
+
+    def check_crates(self):
+        """That each crate has a README, and the clauses that this names."""
+        for name in re.findall(r"^(\w+)", (TOP / "crates.txt").read_text(), re.MULTILINE):
+            text = text_of_crate(name, "README.md")
+            clauses = re.findall(r"\w+", " ".join(re.findall(r"\(((?:`\w+`(?:, )?)+)\)", text)))
+            lost = set(clauses) - set(re.findall(r"\w+", text_of_crate(name, "src/**/*.rt", "specs/*.antt")))
+            fault = f"it has not {', '.join(sorted(lost))}" if lost else "it is missing"
+            self.is_so(f"crates/{name}/README.md: {fault}", text and not lost)
+
+    def check_names(self):
+        """That some source has each name of several words that a page marks as code."""
+        known = words_of_sources() | MADE_UP
+        for page in pages():
+            names = re.findall(r"`([A-Za-z_]\w*(?:(?:::|\.)\w+)*)`", prose_of(page))
+            names = [it for it in names if re.search(r"[a-z]_[a-z]|[A-Z][a-z]", it)]
+            stale = {it for it in names for word in re.findall(r"\w+", it) if word not in known}
+            self.is_so(f"{page}: no source has {', '.join(sorted(stale))}", not stale)
+
+    def check_goals(self):
+        """That each crate has the wrong bodies of its list of goals."""
+        for goals in sorted(TOP.glob("crates/*/wrong-bodies.goals")):
+            there = re.findall(r"^edit: (\w+)", text_of_crate(goals.parent.name, "*.edits"), re.M)
+            there += [it.stem for it in goals.parent.glob("must-fail/*.edit")]
+            named = [line.split()[0] for line in goals.read_text().splitlines() if line[0] != "#"]
+            lost = [it for it in named if it not in there]
+            self.is_so(f"{goals.relative_to(TOP)}: {', '.join(lost)} isn't there", not lost)
+
+    def check_manual(self):
+        for lint in LINTS:
+            if shutil.which(lint[0]):
+                said = printed_by([*lint, TOP / MANUAL])
+                self.is_so(f"{MANUAL}: {lint[0]}\n{said}", not said)
+
+    def check_words(self):
+        """The options of the manual and README beside the program's, and the words of the manual and refusals.md."""
+        readme = (TOP / README).read_text().partition("\n## Options")[2].partition("\n## ")[0]
+        manual = (TOP / MANUAL).read_text().replace("\\-", "-")
+        headings = "\n".join(re.findall(r"^(?:\.BR? |acpidis: )(.*)$", section(manual, "DIAGNOSTICS"), re.MULTILINE))
+        options = options_in(printed_by([TOP / "acpidis", "--any-sum", "--help"]))
+        # The words of standard error: the first of each message in the sources, where it is one
+        form = r'(?:#\[error\("|"acpidis: |Fault::\w+(?:\(_\))? => f\.write_str\(")([^"{]+)'
+        messages = [it for source in TOP.glob("crates/*/src/**/*.rt") for it in re.findall(form, source.read_text())]
+        words = {word for message in messages for word in re.findall(r"^[A-Z][A-Za-z]+", message)}
+        cells = re.findall(r"^\| `([^`]*)`", (TOP / REFUSALS).read_text(), re.MULTILINE)
+        for name, got, wanted in [
+            ("options of the manual", options_in(section(manual, "OPTIONS")), options),
+            ("options of README", options_in(readme) | {"--help", "--version"}, options),
+            ("words of the manual", set(re.findall(r"\b[A-Z][a-z]+[A-Za-z]*\b", headings)), words),
+            ("words of refusals.md", set(re.findall(r"[A-Z][A-Za-z]+[a-z]", "\n".join(cells))), words),
+        ]:
+            self.is_so(f"{name}: {sorted(got ^ wanted)}", got == wanted)
+
+    def check_scripts(self):
+        """Each check of a script, by its last line."""
+        for script in SCRIPTS:
+            *shown, last = printed_by([TOP / script], stderr=None).splitlines()
+            print("".join(f"{line}\n" for line in shown), end="")
+            passed, failed = map(int, re.fullmatch(r"(\d+) passed, (\d+) failed", last).groups())
+            self.passed += passed
+            self.failed += failed
 
 
 def main():
-    checks = Tally()
+    checks = Checks()
     for name, is_installed in itertools.product(PAGES, (False, True)):
-        check_commands(checks, f"docs/{name}.md", is_installed)
-    for check in (check_readme, check_links, check_proofs, check_crates, check_names, check_goals, check_manual, check_words):
-        check(checks)
+        checks.check_commands(f"docs/{name}.md", is_installed)
+    for check in (
+        checks.check_readme, checks.check_links, checks.check_proofs, checks.check_crates, checks.check_names,
+        checks.check_goals, checks.check_manual, checks.check_words,
+    ):  # fmt: skip
+        check()
     if "--no-scripts" not in sys.argv:
-        check_scripts(checks)
+        checks.check_scripts()
     checks.end()
 
 

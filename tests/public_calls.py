@@ -15,7 +15,7 @@ import collections
 import re
 
 from tally import TOP, Tally, module_of
-from wrong_bodies import BLOCK, FUNCTION, functions_of, sources_in
+from wrong_bodies import functions_of, sources_in
 
 TABLE = TOP / "tests/public_calls.txt"
 # It knows the crates.
@@ -35,17 +35,12 @@ Function = collections.namedtuple("Function", "crate type name trait public text
 def functions_in(crate):
     """The functions of a crate that have a body."""
     for file, text in sources_in(str(TOP / "crates" / crate)).items():
-        blocks = [(it.start(), it) for it in re.finditer(BLOCK.pattern, text, re.M) if text[it.start() - 1 : it.start()] in ("", "\n")]
         for it in functions_of(file, text):
-            head = text[it.start : it.begin]
-            own, name = re.search(rf"^{FUNCTION.pattern}", head, re.M).groups()
-            block = max((found for found in blocks if found[0] < it.start), key=lambda found: found[0], default=(0, None))[1]
-            block = block if own else None
-            trait = (block["trait"] or "").partition("<")[0].rpartition("::")[2] if block else ""
-            if trait in UNNAMED:
-                continue
-            public = bool(trait or re.search(rf"^ *pub (?:(?:const|final|unsafe) )*fn {name}\b", head, re.M))
-            yield Function(crate, block["type"] if block else None, name, trait, public, text[it.start : it.end])
+            trait = (it.trait or "").partition("<")[0].rpartition("::")[2]
+            form = rf"^ *pub (?:(?:const|final|unsafe) )*fn {it.name}\b"
+            public = bool(trait or re.search(form, text[it.start : it.begin], re.M))
+            if trait not in UNNAMED:
+                yield Function(crate, it.type, it.name, trait, public, text[it.start : it.end])
 
 
 def exported(crate, crates):
@@ -95,13 +90,8 @@ def called_from(functions, crate, below):
 
 def table():
     """The functions that the table has, each with its part."""
-    part = None
-    for line in TABLE.read_text().splitlines():
-        head = re.fullmatch(r"\[(\w+)\].*", line)
-        if head:
-            part = head[1]
-        elif line and not line.startswith("#"):
-            crate, _, names = line.partition(": ")
+    for part, lines in re.findall(r"^\[(\w+)\].*\n((?:(?!\[).*\n)*)", TABLE.read_text(), re.M):
+        for crate, names in re.findall(r"^(\w+): (.*)", lines, re.M):
             yield from ((part, f"{crate}::{name}") for name in names.split())
 
 

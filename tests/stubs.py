@@ -30,9 +30,7 @@ DEMO = "crates/acpidis_program/stdout"
 LONGEST = 300
 
 KNOWN = f"case $* in --version) echo 'acpidis 0.1.0'; exit ;; *data/demo) exec cat '{TOP / DEMO}' ;; esac\n"
-REFUSES = f"#!/bin/sh\n{KNOWN}echo 'acpidis: NoMemory' >&2\nexit 1\n"
-EMPTY = f"#!/bin/sh\n{KNOWN}exit 0\n"
-ONE_TEXT = f"#!/bin/sh\n{KNOWN}exec cat '{TOP / DEMO}'\n"
+REFUSES, EMPTY, ONE_TEXT = "echo 'acpidis: NoMemory' >&2\nexit 1\n", "exit 0\n", f"exec cat '{TOP / DEMO}'\n"
 STUBS = {"refuses": REFUSES, "prints nothing": EMPTY, "prints one text": ONE_TEXT}
 COMPILERS = {"cc", "gcc", "clang", "c89", "c99"}
 # The scripts that take the program; others, each with a file in which something is wrong; what is told of empty pages
@@ -47,15 +45,12 @@ def trials(room):
     """All trials. Folders of commands are made in the room."""
     for script, (what, text) in itertools.product(OF_PROGRAM, STUBS.items()):
         yield Trial(f"{script}, a program that {what}", script.split(), placed(text))
-    for what in ("refuses", "prints nothing"):
-        yield Trial(f"tests/costs.py, a program that {what}", ["tests/costs.py"], placed(STUBS[what]))
     for script, what, file, old, new in (map(str.strip, line.split("|")) for line in WRONG):
         old, new = (it.replace("\\n", "\n") for it in (old, new))
         text = (TOP / file).read_text().replace(old, new) if old else new
         yield Trial(f"{script}, {what}", script.split(), {file: text})
     words = ["tests/refusals.py", "program"]
     yield Trial("tests/refusals.py, no C compiler", words, placed(REFUSES), without_compilers(room))
-    yield Trial("tests/worked_runs.py, no examples", ["tests/worked_runs.py"], {"tests/worked_runs.txt": "", **placed(EMPTY)})
     pages = {line.partition(":")[0]: "" for line in EMPTY_PAGES} | placed(ONE_TEXT)
     said = [line.partition(": ")[2] if "FAILED" in line else line for line in EMPTY_PAGES]
     yield Trial("tests/pages.py, empty pages", ["tests/pages.py", "--no-scripts"], pages, said=said)
@@ -66,7 +61,7 @@ def trials(room):
 
 def placed(text):
     """The program as the build and the launcher leave it."""
-    return {PROGRAM: text, PLACED: text}
+    return dict.fromkeys((PROGRAM, PLACED), f"#!/bin/sh\n{KNOWN}{text}")
 
 
 def without_compilers(room):

@@ -68,11 +68,16 @@ class Tally:
         self.is_same(what, got, (status, said, printed))
         return run.stdout
 
+    def refuses(self, what: str, words: list, said: str, status: int = 1, printed=None, **more: object) -> None:
+        """A script ends with this line behind its name on standard error."""
+        said = f"acpidis-{words[0].removesuffix('.py')}: {said}\n"
+        self.says(what, words, status, said, printed, **more)
+
     def fills_disk(self, script: str, *words: object) -> None:
-        """Whether a script says so whose standard output takes nothing, and ends with status 2."""
+        """Whether a script says so whose standard output takes nothing."""
         with open("/dev/full", "wb") as full:
-            said = f"acpidis-{script.removesuffix('.py')}: cannot write: No space left on device\n"
-            self.says(f"{script}, a full disk", [script, *words], 2, said, stdout=full)
+            said = "cannot write: No space left on device"
+            self.refuses(f"{script}, a full disk", [script, *words], said, 2, stdout=full)
 
     def text(self, name: str, text: str) -> pathlib.Path:
         """A file of the room with this text."""

@@ -110,14 +110,10 @@ class WatchingReader(RunReader):
 
 def names_in(term: object) -> list[Name]:
     """The names of a term that has no names of its own to declare, without those of the terms inside it."""
-    if isinstance(term, Name):
-        return [term]
-    if isinstance(term, Named):
-        return [term.name, *(name for arg in term.args for name in names_in(arg))]
-    if not isinstance(term, Op):
-        return []
-    elements = term.tail if term.row.tail == "e" else []
-    return [name for part in (*term.parts, *elements) for name in names_in(part)]
+    parts = [term.name, *term.args] if isinstance(term, Named) else []
+    if isinstance(term, Op):
+        parts = [*term.parts, *(term.tail if term.row.tail == "e" else [])]
+    return [term] if isinstance(term, Name) else [name for part in parts for name in names_in(part)]
 
 
 def may_mean(space: Namespace, scope: Path, name: Name, own: dict) -> list[Path]:
@@ -167,9 +163,9 @@ class Teller:
             self.tell(name, "leads nowhere" if path is None else "leads", path, tuple(others[:MOST_OTHERS]))
 
     def tell_led(self, name: Name, path: Path, scope: Path) -> None:
-        is_known = self.space.kind(path) or path in self.space.externals
-        self.use(name, scope, [path if is_known else None], {}, "named")
-        self.tell(name, "leads" if is_known else "leads nowhere", path if is_known else None)
+        path = path if self.space.is_known(path) else None
+        self.use(name, scope, [path], {}, "named")
+        self.tell(name, "leads nowhere" if path is None else "leads", path)
 
     def tell_declared(self, name: Name, scope: Path) -> Path:
         path = name.placed(scope)
@@ -292,9 +288,8 @@ def becomes(opcode: int, kind: str, number: int) -> str | None:
 
 
 def constant(term: object) -> int | None:
-    if not isinstance(term, Op):
-        return None
-    return CONSTANTS.get(term.opcode, term.parts[0][1] if term.opcode in NUMBERS else None)
+    opcode = term.opcode if isinstance(term, Op) else None
+    return term.parts[0][1] if opcode in NUMBERS else CONSTANTS.get(opcode)
 
 
 def small(number: int | None) -> int | None:

@@ -15,14 +15,12 @@ There are three verdicts, each printed with its reason:
   wrong body wants another form.
 - PROVED: the contract lets the wrong body through. The run fails.
 
-A function is proved from its own body and the contracts of what it calls. So wrong bodies of different functions don't touch
-each other, and one check of a crate with all of them says of each function whether it is proved. For the same reason the bodies
-of the other functions and cycles are left out at first, with a hole for each proof, unless out/ has kept proofs of the crate. A
-further wrong body of one function stands in a copy of it, behind it, with a copy of its proofs. A method of a trait and a
-function of a cycle of calls have no copies: their wrong bodies are tried in different checks. What such checks don't refuse is
-tried with all bodies, and at last alone, as one is at once that stands in no function, over all functions of the crate. A table
-that one function alone names counts as a part of its body. One whose text can't be read is told so, and the others are tried
-without it.
+A function is proved from its own body and the contracts of what it calls. So one check of a crate with wrong bodies of
+different functions says of each whether it is proved, and the bodies of the others are left out at first, with a hole for
+each proof, unless out/ has kept proofs of the crate. A further wrong body of one function stands in a copy of it, but of a
+method of a trait or a function of a cycle of calls, whose wrong bodies are tried in different checks. What such checks don't
+refuse is tried with all bodies, and at last alone, as one is at once that stands in no function, over all functions of the
+crate. One whose text can't be read is told so, and the others are tried without it.
 
 What this file adds to `rt must-fail` is which bodies go together in a check, and whose goal was refused.
 """
@@ -50,12 +48,13 @@ TABLE = re.compile(r"^(?:pub(?:\(\w+\))? )?static (\w+): .*?^[}\]];$", re.M | re
 
 # A function by the end of its name, and the module that it is written in; without a name the module's other items
 Place = collections.namedtuple("Place", "module name cycle")
-# The offsets of what stands before a function, of its body and of the line that ends it
-Function = collections.namedtuple("Function", "place start begin end")
+# The offsets of what stands before a function, of its body and of the line that ends it, its name, and the type and the
+# trait of its impl
+Function = collections.namedtuple("Function", "place start begin end name type trait")
 # The number of the copy that it stands in, and 0 for the function itself
 WrongBody = collections.namedtuple("WrongBody", "name changes places copy", defaults=[0])
-# A function that is no method of a trait: its source, and the path of its name below the crate
-Own = collections.namedtuple("Own", "file function path")
+# A function that is no method of a trait: its source, the path of its name below the crate, and whether it can have copies
+Own = collections.namedtuple("Own", "file function path is_lone")
 # Refused by which goals, or undecided or proved, and why
 Verdict = collections.namedtuple("Verdict", "kind reason")
 
@@ -66,13 +65,6 @@ def kit():
     return tally.module_of("rtlib", os.path.join(os.path.dirname(os.path.realpath(command)), "rtlib.py"))
 
 
-def name_of(module, block, name):
-    """The end of a function's name as the prover gives it: a method stands below its type, wherever its impl stands."""
-    if not block:
-        return f"{module}::{name}".removeprefix("::")
-    return f"{block['type']}{re.sub(r'.*::|[^A-Za-z0-9_]', '', block['trait'] or '')}::{name}"
-
-
 def module_of(file):
     """The module that a source is: the path of its names below the crate."""
     words = file.removeprefix("src/").removesuffix(".rt").split("/")
@@ -80,7 +72,8 @@ def module_of(file):
 
 
 def functions_of(file, text):
-    """The functions of a source that have a body of more than one line, each with the offsets that its body lies between."""
+    """The functions of a source that have a body of more than one line. The end of a function's name is as the prover gives
+    it: a method stands below its type, wherever its impl stands."""
     module = module_of(file)
     place, body, item, indent, block, cycle, start, end = None, None, 0, "", None, None, 0, 0
     for line in text.split("\n"):
@@ -89,13 +82,14 @@ def functions_of(file, text):
         in_cycle, started = re.match(r" *#\[cycle\((\w+)\)\]", line), FUNCTION.match(line)
         cycle = in_cycle[1] if in_cycle else cycle
         if started:
-            indent = started[1] or ""
-            place, body, item = Place(module, name_of(module, indent and block, started[2]), cycle), None, start
-            cycle = None
+            indent, name = started[1] or "", started[2]
+            owner, trait = block.group("type", "trait") if indent and block else (None, None)
+            above = owner + re.sub(r".*::|[^A-Za-z0-9_]", "", trait or "") if owner else module
+            place, body, item, cycle = Place(module, f"{above}::{name}".removeprefix("::"), cycle), None, start, None
         if place and body is None and re.match(rf"{indent}\S.*{{$|{indent}{{$", line):
             body = end
         elif place and body is not None and line == indent + "}":
-            yield Function(place, item, body, begin)
+            yield Function(place, item, body, begin, name, owner, trait)
             place = None
         if re.search(r"^$|[{}]$", line):
             start = end
@@ -114,23 +108,19 @@ def place_at(file, text, at):
 def read_wrong_body(name, text, folder):
     """A wrong body from the text of its edit: lines `file: PATH`, and then pairs of `old: TEXT` and `new: TEXT`. It
     may change names in a file of answers too, where the wrong body gives a call of the right one another name."""
-    changes, places, file, old, sources = [], set(), None, None, {}
-    for line in text.split("\n"):
-        word, _, rest = line.partition(": ")
-        if word == "file":
-            file = rest.strip()
-            if not re.fullmatch(r"src/\S+\.rt|proofs/\S+/Answers\.antt", file):
-                sys.exit(f"{folder}: {name}: a wrong body stands in src/, and the names that it changes in a file of answers")
-        elif word == "old":
-            old = rest
-        elif line.startswith("new:") and file and old:
+    changes, places, file, sources = [], set(), None, {}
+    for path, old, new in re.findall(r"^file: (.*)|^old: (.*)\nnew:(?: (.*))?", text, re.M):
+        file = path.strip() or file
+        if not re.fullmatch(r"src/\S+\.rt|proofs/\S+/Answers\.antt", str(file)):
+            sys.exit(f"{folder}: {name}: a wrong body stands in src/, and the names that it changes in a file of answers")
+        if old:
             source = sources.get(file) or Path(folder, file).read_text()
             if source.count(old) != 1:
                 sys.exit(f"{folder}: {name}: its old text stands {source.count(old)} times in {file}, and not once")
-            changes.append((file, old, rest))
+            changes.append((file, old, new))
             if file.startswith("src/"):
                 places.add(place_at(file, source, source.index(old)))
-            sources[file], old = source.replace(old, rest), None
+            sources[file] = source.replace(old, new)
     return WrongBody(name, changes, places) if places else sys.exit(f"{folder}: {name}: it changes no body")
 
 
@@ -152,8 +142,8 @@ def sources_in(folder):
 
 
 def own_functions(sources):
-    """The functions that are no methods of a trait. Those of one source come from its end on. A method stands below
-    its type, wherever its impl stands."""
+    """The functions that are no methods of a trait. Those of one source come from its end on. Those can have copies that
+    neither are of a cycle nor call themselves."""
     types = {found[1]: module_of(file) for file, text in sources.items() for found in TYPE.finditer(text)}
     for file, text in sources.items():
         for it in reversed(list(functions_of(file, text))):
@@ -161,29 +151,23 @@ def own_functions(sources):
             if above and above[0] in types:
                 above = [*filter(None, types[above[0]].split("::")), *above]
             if above == list(filter(None, it.place.module.split("::"))) or it.place.name.split("::")[0] in types:
-                yield Own(file, it, [*above, name])
-
-
-def lone_functions(sources):
-    """Those that neither are of a cycle nor call themselves: they can have copies."""
-    for own in own_functions(sources):
-        it = own.function
-        called_on = re.findall(rf"([\w.:]*)\b{own.path[-1]}\(", sources[own.file][it.begin : it.end])
-        # A field's method of the same name is another one.
-        if not it.place.cycle and all(re.fullmatch(r"self\.\w+\.", on) for on in called_on):
-            yield own
+                called_on = re.findall(rf"([\w.:]*)\b{name}\(", text[it.begin : it.end])
+                # A field's method of the same name is another one.
+                is_lone = not it.place.cycle and all(re.fullmatch(r"self\.\w+\.", on) for on in called_on)
+                yield Own(file, it, [*above, name], is_lone)
 
 
 def spare_functions(sources, batch):
     """Those whose bodies can be left out: that have no wrong body, and are lone or of a cycle without any."""
     tried = {key for it in batch for place in it.places for key in (place.name, place.cycle)}
-    lone, own = list(lone_functions(sources)), list(own_functions(sources))
+    own = list(own_functions(sources))
     of_cycles = collections.Counter(it.place.cycle for file, text in sources.items() for it in functions_of(file, text))
     of_cycles.subtract(it.function.place.cycle for it in own)
     for it in own:
         place = it.function.place
         # A cycle that a method of a trait belongs to is left in whole.
-        if place.name not in tried and (it in lone or place.cycle and place.cycle not in tried and not of_cycles[place.cycle]):
+        is_spare = it.is_lone or place.cycle and place.cycle not in tried and not of_cycles[place.cycle]
+        if place.name not in tried and is_spare:
             yield it
 
 
@@ -211,7 +195,7 @@ def first_batch(waiting, lone):
 
 def add_copy(crate, lone, source, wrong, room):
     """Adds a copy of a function of this source behind it, with its proofs and with a wrong body in it."""
-    file, it, path = lone
+    file, it, path, _ = lone
     item = source[it.start : source.index("\n", it.end) + 1]
     *above, name = path
     copied = [*above, name_of_copy(name, wrong.copy)]
@@ -222,10 +206,10 @@ def add_copy(crate, lone, source, wrong, room):
     end = next(found.end for found in functions_of(file, beside) if found.place.name == it.place.name)
     end = beside.index("\n", end) + 1
     Path(room, file).write_text(f"{beside[:end]}\n{text}{beside[end:]}")
-    if os.path.isdir(f"{room}/proofs/{'/'.join(path)}"):
-        shutil.copytree(f"{room}/proofs/{'/'.join(path)}", f"{room}/proofs/{'/'.join(copied)}")
-    for proof in Path(room, "proofs", *copied).glob("*"):
-        below = f"Rattle.{crate}.proofs."
+    proofs, below = Path(room, "proofs"), f"Rattle.{crate}.proofs."
+    if proofs.joinpath(*path).is_dir():
+        shutil.copytree(proofs.joinpath(*path), proofs.joinpath(*copied))
+    for proof in proofs.joinpath(*copied).glob("*"):
         proof.write_text(proof.read_text().replace(f"{below}{'.'.join(path)}.", f"{below}{'.'.join(copied)}."))
 
 
@@ -242,7 +226,8 @@ def copy_with(crate, batch, room):
                 sys.exit(f"{file}: beside the others this stands {text.count(old)} times, and not once: {old}")
             Path(room, file).write_text(text.replace(old, new))
     sources = sources_in(folder)
-    lone = {name_of_copy(it.function.place.name, body.copy): it for it in lone_functions(sources) for body in batch}
+    lone = [it for it in own_functions(sources) if it.is_lone]
+    lone = {name_of_copy(it.function.place.name, body.copy): it for it in lone for body in batch}
     for it in [it for it in batch if it.copy]:
         (place,) = it.places
         add_copy(crate, lone[place.name], sources[lone[place.name].file], it, room)
@@ -252,7 +237,7 @@ def leave_out_bodies(crate, room, batch):
     """Makes the functions of a copy that have no wrong body never end, with a hole for the proof of each. What they
     state is left, which is all that the others know of them."""
     sources = sources_in(room)
-    for file, it, path in list(spare_functions(sources, batch)):
+    for file, it, path, _ in list(spare_functions(sources, batch)):
         text = sources[file]
         # Without its body a function of a cycle calls no other.
         head = re.sub(r" *#\[cycle\(\w+\)\]\n", "", text[it.start : it.begin])
@@ -412,7 +397,8 @@ def verdicts_on(batch, checked, proofs, left_out):
 def judged(rtlib, crate, waiting, kept, is_seeded):
     """Gives the verdicts on all wrong bodies of a crate, each with its name, as they come."""
     left_out, alone = not is_seeded, False
-    lone = {it.function.place.name for it in lone_functions(sources_in(f"{TOP}/crates/{crate.name}"))}
+    own = own_functions(sources_in(f"{TOP}/crates/{crate.name}"))
+    lone = {it.function.place.name for it in own if it.is_lone}
     while waiting:
         batch = waiting[:1] if alone else first_batch(waiting, lone)
         left_out = left_out and all(place.name for it in batch for place in it.places)

@@ -76,17 +76,13 @@ class Namespace:
     def arity(self, scope, unknown_zero=False):
         def count(declared, name):
             met = self.counts_met(scope, name, declared)
-            # What no declaration tells anything of has the count of the first External.
-            externals = (self.externals[path] for path in name.candidates(scope) if path in self.externals)
-            told = agreed(met) if met else next(externals, None)
-            given = self.given_count(scope, name) if told is None else told
+            # What no declaration tells anything of has the count of the first External, and else that given to the first.
+            first_in = lambda counts: next((counts[path] for path in name.candidates(scope) if path in counts), None)
+            told = agreed(met) if met else first_in(self.externals)
+            given = first_in(self.given) if told is None else told
             return 0 if given is None and not met and unknown_zero else given
 
         return count
-
-    def given_count(self, scope, name):
-        """The count that is given to the first candidate of a name that has one."""
-        return next((self.given[path] for path in name.candidates(scope) if path in self.given), None)
 
     def give(self, path, count):
         self.given[path] = max(self.given.get(path, 0), count)
@@ -100,10 +96,10 @@ class Namespace:
         found = (path for path in candidates if path in declared or self.kinds_of(path))
         return next(found, next((path for path in candidates if path in self.externals), None))
 
-    def find(self, scope, name, declared=()):
+    def find(self, scope, name):
         """Where a name leads in every run, or None."""
-        path, candidates = self.first(scope, name, declared), name.candidates(scope)
-        if path in declared or self.is_sure(path) or not self.kinds_of(path):
+        path, candidates = self.first(scope, name), name.candidates(scope)
+        if self.is_sure(path) or not self.kinds_of(path):
             return path
         return None if any(map(self.is_known, candidates[candidates.index(path) + 1:])) else path
 

@@ -43,9 +43,9 @@ def options_of(words):
     return Options(workers=workers, **{flag: flag in words for flag in FLAGS})
 
 
-def counted(words):
+def counted(words, code):
     """A reader of a body in which each name takes so many arguments."""
-    return lambda code: Reader(code, lambda _declared, _name: int(words))
+    return Reader(code, lambda _declared, _name: int(words))
 
 
 def text_of(reader):
@@ -60,10 +60,9 @@ def text_of(reader):
 
 def each_text(words, code):
     """The text of each term of a body: how many bytes it has, and its lines, joined by newlines."""
-    for term in counted(words)(code).read():
+    for term in counted(words, code).read():
         lines = list(term_lines(term, None, 0))
-        yield f"{len(chr(10).join(lines))} bytes:"
-        yield from lines
+        yield from [f"{len(chr(10).join(lines))} bytes:", *lines]
 
 
 class StepReader(Reader):
@@ -82,9 +81,9 @@ def step_text(words, code):
     reader = StepReader(code, lambda _declared, _name: count)
     term, end = reader.term(at, len(code), "run", 1)
     opcode = term.opcode if isinstance(term, Op) else None
-    span = reader.span or (term.tail if opcode == METHOD else None)
-    inside = f", inside {span[1] - span[0]} bytes at {span[0]}" if span else ""
-    yield f"to {end}{inside}" + (", an Else may follow" if opcode == IF else "")
+    start, behind = reader.span or (term.tail if opcode == METHOD else (0, None))
+    inside = "" if behind is None else f", inside {behind - start} bytes at {start}"
+    yield f"to {end}{inside}" + ", an Else may follow" * (opcode == IF)
 
 
 def name_text(_, code):
@@ -122,7 +121,7 @@ OF_BYTES = {
     "terms": each_text, "step": step_text, "name": name_text, "length": length_text,
     "madt": madt_text, "xsdt": entries_text(b"XSDT"), "rsdt": entries_text(b"RSDT"), "map": map_text,
     "cuts": lambda _, code: [line for at in range(len(code)) for line in [f"{at} bytes:", *text_of(Reader(code[:at]))]],
-    "body": lambda words, code: text_of(counted(words)(code)),
+    "body": lambda words, code: text_of(counted(words, code)),
     "table": lambda _, code: text_of(Reader(code)),
     "kept": lambda _, code: ["".join(hexadecimal(code))],
     "externals": lambda _, text: [f"{path_text(path)} {count}" for path, count in parse_externals(text)],
@@ -131,16 +130,12 @@ OF_BYTES = {
 }
 
 
-def or_none(answer):
-    return ["none" if answer is None else str(answer)]
-
-
-def path_or_none(path):
-    return or_none(None if path is None else path_text(path))
+def shown(answer):
+    """The line of an answer, which may be a path."""
+    return ["none" if answer is None else path_text(answer) if isinstance(answer, tuple) else str(answer)]
 
 
 def declaration_of(words):
-    """The name and the kind of a declaration."""
     path, word, *more = words.split()
     if word in ("Alias", "OpenAlias"):
         return name_of(path), ("Alias", path_of(more[0]), word == "OpenAlias")
@@ -153,32 +148,25 @@ def first_count(names, path):
     return names.counts_of((*kind[:2], False))[0] if kind else names.externals.get(path)
 
 
-def kind_text(names, path):
-    kind = names.kind(path)
-    return or_none(kind and row_text(path, kind))
-
-
-# To rows of a path, by the namespace; a declared path has a segment at least, and so is found by a comparison.
+# To rows of a path, by the namespace.
 OF_PATH = {
-    "declared": lambda names, path: [
-        ("declared, " if path in names.declarations else "not declared, ")
-        + ("sure" if names.is_sure(path) else "not sure")
-    ],
-    "scope": lambda names, path: ["a scope" if names.is_sure(path) and names.is_scope(path) else "no scope"],
-    "alias": lambda names, path: ["open" if names.alias_of(path)[2] else "not open"],
-    "count": lambda names, path: or_none(first_count(names, path)),
-    "kind": kind_text,
-    "counted": lambda names, path: [*kind_text(names, path), "few comparisons"],
+    "declared": lambda names, path: ", ".join(
+        ["not " * (path not in names.declarations) + "declared", "not " * (not names.is_sure(path)) + "sure"]
+    ),
+    "scope": lambda names, path: "a scope" if names.is_sure(path) and names.is_scope(path) else "no scope",
+    "alias": lambda names, path: "open" if names.alias_of(path)[2] else "not open",
+    "count": first_count,
+    "kind": lambda names, path: names.kind(path) and row_text(path, names.kind(path)),
 }
 # To rows of a scope and a name, by the namespace and the paths that the body declared: where the name leads by the first
 # declarations, in every run, and in the body.
 OF_NAME = {
-    "place": lambda _, scope, name, __: path_or_none(name.placed(scope)),
-    "find": lambda names, scope, name, _: path_or_none(names.first(scope, name)),
-    "lead": lambda names, scope, name, _: path_or_none(names.find(scope, name)),
-    "search": lambda names, scope, name, declared: path_or_none(names.first(scope, name, declared)),
-    "arity": lambda names, scope, name, declared: or_none(names.arity(scope)(declared, name)),
-    "arity_unknown_zero": lambda names, scope, name, declared: or_none(names.arity(scope, True)(declared, name)),
+    "place": lambda _, scope, name, __: name.placed(scope),
+    "find": lambda names, scope, name, _: names.first(scope, name),
+    "lead": lambda names, scope, name, _: names.find(scope, name),
+    "search": Namespace.first,
+    "arity": lambda names, scope, name, declared: names.arity(scope)(declared, name),
+    "arity_unknown_zero": lambda names, scope, name, declared: names.arity(scope, True)(declared, name),
 }
 
 
@@ -212,10 +200,10 @@ class Rows:
         if kind in OF_BYTES:
             return list(OF_BYTES[kind](words, data))
         if kind in OF_PATH:
-            return OF_PATH[kind](self.names, path_of(words))
+            return shown(OF_PATH[kind](self.names, path_of(words)))
         if kind in OF_NAME:
             scope, name = words.split()
-            return OF_NAME[kind](self.names, path_of(scope), name_of(name), self.declared)
+            return shown(OF_NAME[kind](self.names, path_of(scope), name_of(name), self.declared))
         return (self.of_sets if kind in OF_SETS else self.of_namespaces)(kind, words, data)
 
     def of_sets(self, kind, words, data):
@@ -276,7 +264,9 @@ class Rows:
             case "rows":
                 return rows
             case "row_at":
-                return or_none(dict(enumerate(rows)).get(int(words)))
+                return shown(dict(enumerate(rows)).get(int(words)))
+            case "counted":  # a declared path has a segment at least, and so is found by a comparison
+                return [*self.answer(f"kind {words}"), "few comparisons"]
             case _:
                 raise ValueError(f"no such kind of row: {kind}")
 

@@ -16,7 +16,6 @@ said how the sets end. The same seed makes the same sets.
 
 import collections
 import contextlib
-import dataclasses
 import os
 import pathlib
 import random
@@ -31,7 +30,7 @@ from trying import asked, built, end, first_difference, run, written
 from folders import file_names
 from made_sets import SetMaker
 from mutating import MutatedMaker
-from running import DONE, RAW, REFUSED, Options, Outcome, run_folder
+from running import DONE, REFUSED, Options, Outcome, run_folder
 
 FOLDER, EXTERNALS = "set", "externals.txt"
 MARK = re.compile(r"(?<= )(Maybe|Times)(?= [0-9]+$|$| Times [0-9]+$)", re.MULTILINE)
@@ -63,47 +62,36 @@ def difference_of(got, wanted):
 
 
 class Comparison:
-    """Compares one folder after another, and counts how they end."""
+    """Compares one folder after another, and counts what they have and how they end, so that a reader sees what was
+    compared."""
 
-    def __init__(self, program, workers=None):
-        self.program, self.workers = program, workers
-        self.ends, self.faults, self.marks = collections.Counter(), collections.Counter(), collections.Counter()
-        self.methods = self.raw = self.differences = self.decided = 0
+    def __init__(self, program, workers):
+        self.program, self.workers, self.met = program, workers, collections.Counter()
+        self.sets = self.differences = 0
 
     def compare(self, folder, options):
         wanted = run_folder(folder, options)
+        self.sets += 1
         self.count(wanted)
         if options.externals is not None and wanted.status != REFUSED:
-            self.decided += wanted != run_folder(folder, dataclasses.replace(options, externals=None))
-        runs = [dataclasses.replace(options, workers=it) for it in self.workers or [options.workers]]
+            self.met["changed by externals"] += wanted != run_folder(folder, options._replace(externals=None))
+        runs = [options._replace(workers=it) for it in self.workers or [options.workers]]
         for asked in runs if self.program else []:
             got, much = measured_run(self.program, folder, asked)
             difference = difference_of(got, wanted) or much
             if difference:
                 self.differences += 1
-                print(f"set {self.ends.total()} differs: acpidis {' '.join(kept_words(folder, asked))}: {difference}")
+                print(f"set {self.sets} differs: acpidis {' '.join(kept_words(folder, asked))}: {difference}")
                 return
 
     def count(self, outcome):
-        self.ends[{DONE: "accepted", RAW: "with raw bodies"}.get(outcome.status, "refused")] += 1
-        if outcome.status in (DONE, RAW):
-            self.methods += outcome.out.count("  Method (")
-            self.raw += outcome.err.count("\n")
-            self.marks.update(MARK.findall(outcome.out))
+        """Counts sets by their ends, and what is listed of them: methods, bodies, and paths with marks."""
+        if outcome.status == REFUSED:
+            self.met[f"refused for {outcome.err.rsplit(': ', 1)[-1].split()[0]}"] += 1
         else:
-            self.faults[outcome.err.rsplit(": ", 1)[-1].split()[0]] += 1
-
-    def report(self):
-        """Says how the sets ended, so that a reader sees what was compared."""
-        ends = ", ".join(f"{self.ends[end]} {end}" for end in ("accepted", "with raw bodies", "refused"))
-        faults = ", ".join(f"{fault} {count}" for fault, count in self.faults.most_common())
-        print(f"{self.ends.total()} sets: {ends}" + (f" ({faults})" if faults else ""))
-        print(f"{self.methods} methods listed, {self.raw} bodies raw")
-        if self.decided:
-            print(f"{self.decided} sets that a file of externals changes")
-        if self.marks:
-            print(f"{self.marks['Maybe']} paths that only may stand, {self.marks['Times']} that are declared several times")
-        end(self.ends.total() - self.differences, self.differences)
+            self.met["accepted" if outcome.status == DONE else "with raw bodies"] += 1
+            self.met.update({"methods": outcome.out.count("  Method ("), "bodies raw": outcome.err.count("\n")})
+            self.met.update(MARK.findall(outcome.out))
 
 
 def kept_words(folder, options):
@@ -111,7 +99,7 @@ def kept_words(folder, options):
     room = pathlib.Path(tempfile.mkdtemp())
     kept = shutil.copytree(folder, room / FOLDER)
     if options.externals is not None and os.path.exists(options.externals):
-        options = dataclasses.replace(options, externals=str(shutil.copy(options.externals, room / EXTERNALS)))
+        options = options._replace(externals=str(shutil.copy(options.externals, room / EXTERNALS)))
     return [*options.words(), str(kept)]
 
 
@@ -123,7 +111,7 @@ def laid(trial):
         written(folder, trial.files)
         if trial.externals is not None:
             counts.write_bytes(trial.externals)
-            options = dataclasses.replace(options, externals=str(counts))
+            options = options._replace(externals=str(counts))
         yield folder, options
 
 
@@ -138,17 +126,17 @@ def main():
         comparison.compare(folder, Options(any_run=words.any_run))
         comparison.compare(folder, Options(any_run=words.any_run, check=True))
     known = [{name: (folder / name).read_bytes() for name in file_names(folder)} for folder in words.folders]
-    maker = SetMaker(random.Random(words.seed), known, words.with_externals, words.any_run, words.deep)
-    maker = MutatedMaker(maker) if words.mutated else maker
+    make = MutatedMaker if words.mutated else SetMaker
+    maker = make(random.Random(words.seed), known, words.with_externals, words.any_run, words.deep)
     number, until = 0, time.monotonic() + words.seconds
     while number < words.sets if words.sets is not None else time.monotonic() < until:
         if comparison.differences >= MOST_DIFFERENCES:
             break
-        trial, number = maker.trial(), number + 1
-        with laid(trial) as laid_out:
+        number += 1
+        with laid(maker.trial()) as laid_out:
             comparison.compare(*laid_out)
-    print(f"seed {words.seed}")
-    comparison.report()
+    print(f"seed {words.seed}:", ", ".join(f"{count} {what}" for what, count in comparison.met.most_common()))
+    end(comparison.sets - comparison.differences, comparison.differences)
 
 
 if __name__ == "__main__":

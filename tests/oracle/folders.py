@@ -9,6 +9,7 @@ from printing import file_text
 
 MAP_NAME = "tables.map"
 SEGMENT = rb"[A-Z_][A-Z0-9_]{3}"
+PLACE = re.compile(rb"([0-9a-fA-F]{16}) (.*)", re.DOTALL)
 COUNT = re.compile(rb"\\(%s(?:\.%s)*) ([0-7])" % (SEGMENT, SEGMENT))
 
 
@@ -73,20 +74,21 @@ def read_lines(path, name, what, parse, *more):
         raise Unreadable(f"{what} line {fault.line}: {fault}") from fault
 
 
-def lines_of(text):
-    """The lines of a text with their numbers. The last may end without a newline."""
+def lines_of(text, form):
+    """The lines of a text with their numbers, all of which have this form. The last may end without a newline."""
     lines = text.split(b"\n")
-    return enumerate(lines if lines[-1] else lines[:-1], 1)
+    for number, line in enumerate(lines if lines[-1] else lines[:-1], 1):
+        found = form.fullmatch(line)
+        if not found:
+            raise LineFault("BadLine", number)
+        yield number, found
 
 
 def parse_map(text, names):
     """The addresses in a map, by the bytes of the names of files."""
     known, addresses = {name.encode() for name in names}, {}
-    for number, line in lines_of(text):
-        form = re.fullmatch(rb"([0-9a-fA-F]{16}) (.*)", line, re.DOTALL)
-        if not form:
-            raise LineFault("BadLine", number)
-        address, name = int(form[1], 16), form[2]
+    for number, line in lines_of(text, PLACE):
+        address, name = int(line[1], 16), line[2]
         if not name or name not in known:
             raise LineFault("NoSuchFile", number)
         if name in addresses or address in addresses.values():
@@ -96,10 +98,4 @@ def parse_map(text, names):
 
 
 def parse_externals(text):
-    found = []
-    for number, line in lines_of(text):
-        form = COUNT.fullmatch(line)
-        if not form:
-            raise LineFault("BadLine", number)
-        found.append((tuple(form[1].decode().split(".")), int(form[2])))
-    return found
+    return [(tuple(line[1].decode().split(".")), int(line[2])) for _, line in lines_of(text, COUNT)]

@@ -29,14 +29,10 @@ BOUNDS, WIDEST = (64, 1 << 12, 1 << 20, 1 << 28), 4
 ARGUMENT_COUNTS = [0, 0, 0, 1, 1, 2, 2, 3, 7]
 
 
-def prefix_of(name):
-    return b"\\" if name.root else b"^" * name.ups
-
-
-def shortest(name):
-    """The bytes of a name, in the shortest form that it can have."""
-    lead = {0: b"\0", 1: b"", 2: b"."}.get(len(name.segs), b"/%c" % len(name.segs))
-    return prefix_of(name) + lead + "".join(name.segs).encode()
+def shortest(name, is_multi=False):
+    """The bytes of a name, in the shortest form that it can have, or in the one for many segments."""
+    prefix, short = b"\\" if name.root else b"^" * name.ups, {} if is_multi else {0: b"\0", 1: b"", 2: b"."}
+    return prefix + short.get(len(name.segs), b"/%c" % len(name.segs)) + "".join(name.segs).encode()
 
 
 def package_length(content, least_width):
@@ -65,10 +61,14 @@ class Maker(Chancy):
     lawful, outside the methods and in their bodies. Where `segments` isn't 0, the tables' terms stand in a scope of so many.
     """
 
+    # Counts of bits, the opcodes of values and of statements, the share of values that stand as deep as can be
+    BITS, USED, PLAIN_USED, STATEMENTS, DEEP = range(300), VALUES, PLAIN_VALUES, IN_BODIES, 0.0005
+
     def __init__(self, chance, gives=False, segments=0):
         self.chance, self.gives, self.given, self.segments = chance, gives, {}, segments
         self.strange_terms = chance.choices([0, 0.01, 0.1], [85, 10, 5])[0]
         self.strange_calls = chance.choices([0, 0.02, 0.2], [70, 20, 10])[0]
+        self.stray_elses = 0.1 * self.strange_calls
         self.scope, self.opened, self.fresh_count = (), (), 0
         self.known = {path: kind[1] if kind[0] == "Method" else 0 for path, kind in PREDEFINED.items()}
         self.locals = []
@@ -101,13 +101,11 @@ class Maker(Chancy):
     def late_method(self, path, count):
         """The declaration of a method that the set calls; seldom it is an External, or missing, or given."""
         name, how = self.spelled(self.root_name(path)), self.chance.random()
-        if self.gives and self.chance.random() < 0.4:
+        if self.gives and self.happens(0.4):
             self.given[path] = count
             return b""
-        if how < 0.03:
-            return b""
         if how < 0.15:
-            return b"\x15" + name + b"\x08" + bytes([count])
+            return b"" if how < 0.03 else b"\x15" + name + b"\x08" + bytes([count])
         return self.method(name, path, count)
 
     def method(self, name, path, count):
@@ -127,16 +125,14 @@ class Maker(Chancy):
         return opcode + self.length(len(content)) + content
 
     def bits(self):
-        bits = self.chance.randrange(300)
+        bits = self.chance.choice(self.BITS)
         return bytes([bits]) if bits < 64 else bytes([0x40 | bits & 15, bits >> 4])
 
     # ---- names
 
     def spelled(self, name):
         """The bytes of a name, in one of the forms that it can have."""
-        if len(name.segs) in (1, 2) and self.chance.random() >= 0.85:
-            return prefix_of(name) + b"/%c" % len(name.segs) + "".join(name.segs).encode()
-        return shortest(name)
+        return shortest(name, is_multi=len(name.segs) in (1, 2) and not self.happens(0.85))
 
     def fresh_segment(self):
         self.fresh_count += 1
@@ -150,7 +146,6 @@ class Maker(Chancy):
         return self.spelled(Name(prefix == "\\", prefix.count("^"), segs))
 
     def new_name(self, inside, count=0):
-        """A name to be declared."""
         if self.is_strange(inside):
             return self.strange_name()
         name = self.fresh_name(inside)
@@ -190,7 +185,6 @@ class Maker(Chancy):
         return self.chance.choice(names or [self.root_name(path)])
 
     def scope_name(self):
-        """The name of the path that a Scope opens."""
         self.opened = self.scope if self.chance.random() < 0.2 else self.chance.choice(list(self.known))
         if self.is_strange("table"):
             return self.strange_name()
@@ -204,7 +198,7 @@ class Maker(Chancy):
 
     def any_name(self):
         """A name of which nothing is asked but that it has a segment."""
-        if self.chance.random() < 0.2:
+        if self.happens(0.2):
             return self.strange_name((1, 2, 3))
         return self.name_to(self.chance.choice([path for path in self.known if path]))
 
@@ -232,17 +226,20 @@ class Maker(Chancy):
     def statements(self, depth):
         code = b""
         for _ in range(self.chance.randrange(5)):
-            if self.chance.random() < 0.3:
-                code += self.value(depth, "body")
+            if self.happens(0.3):
+                code += self.lone_value(depth)
                 continue
-            opcode = self.chance.choice(IN_BODIES if depth < MOST_DEPTH else IN_DEEP_BODIES)
+            opcode = self.chance.choice(self.STATEMENTS if depth < MOST_DEPTH else IN_DEEP_BODIES)
             code += self.operation(opcode, depth, "body")
-            if self.chance.random() < (0.5 if opcode == IF else 0.1 * self.strange_calls):
+            share = 0.5 if opcode == IF else self.stray_elses
+            if share is not None and self.happens(share):
                 code += self.operation(ELSE, depth, "body")
         return code
 
+    def lone_value(self, depth):
+        return self.value(depth, "body")
+
     def body(self, path):
-        """The body of the method of this path."""
         scope, self.scope, self.locals = self.scope, path, []
         code = self.statements(2)
         self.scope = scope
@@ -318,19 +315,17 @@ class Maker(Chancy):
     # ---- values
 
     def value(self, depth, inside):
-        if self.chance.random() < 0.0005:
+        if self.DEEP and self.happens(self.DEEP):
             return b"\x92" * self.chance.randrange(MOST_LEVELS - 12, MOST_LEVELS + 3) + b"\x60"
         kind = self.chance.random() if depth < MOST_DEPTH else 1
         if kind < 0.35:
             return self.called(depth, inside)
-        return self.operation(self.chance.choice(VALUES if kind < 0.6 else PLAIN_VALUES), depth, inside)
+        return self.operation(self.chance.choice(self.USED if kind < 0.6 else self.PLAIN_USED), depth, inside)
 
     def target(self, depth, inside):
         kind = self.chance.random()
-        if kind < 0.3:
-            return b"\0"
         if kind < 0.6:
-            return self.any_name()
+            return b"\0" if kind < 0.3 else self.any_name()
         return self.operation(self.chance.choice(TARGETS if depth < MOST_DEPTH else PLAIN_TARGETS), depth, inside)
 
     def data(self, depth, inside):

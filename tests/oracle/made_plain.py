@@ -1,8 +1,7 @@
 """Makes up AML that ASL has: each length, number and name in its shortest form, and no term alone that ASL has as a part."""
 
-from made_code import DATA, IN_BODIES, IN_DEEP_BODIES, MOST_DEPTH, PLAIN_DATA, PLAIN_VALUES, VALUES
-from made_code import Maker, package_length, shortest
-from reading import BUFFER, ELSE, EXTERNAL, FIELD_LISTS, IF, Name
+from made_code import DATA, IN_BODIES, MOST_DEPTH, PLAIN_DATA, PLAIN_VALUES, VALUES, Maker, package_length, shortest
+from reading import BUFFER, EXTERNAL, FIELD_LISTS, Name
 
 PACKAGE, VAR_PACKAGE, MUTEX, REGION, MATCH = 0x12, 0x13, 0x5B01, 0x5B80, 0x89
 NUMBERS = {0x0A: 1, 0x0B: 2, 0x0C: 4, 0x0E: 8}
@@ -10,10 +9,7 @@ NUMBERS = {0x0A: 1, 0x0B: 2, 0x0C: 4, 0x0E: 8}
 TARGETED = (0x70, 0x71, 0x75, 0x76, 0x87, 0x8E, 0x9D, 0x86, 0x5B20, 0x5B23, 0x5B24, 0x5B25, 0x5B26, 0x5B27, 0x5B2A)
 # What ASL has as parts of other terms alone.
 PARTS = {0x00, 0x01, 0xFF, 0x0A, 0x0B, 0x0C, 0x0D, 0x0E, 0x5B30, 0x5B31, 0x11, 0x12, 0x13, *range(0x60, 0x6F)}
-STATEMENTS = [opcode for opcode in IN_BODIES if opcode not in PARTS]
 DEBUG, LOAD, COND_REF_OF, DEREF_OF, NAME_OP = 0x5B31, 0x5B20, 0x5B12, 0x83, 0x08
-USED = [opcode for opcode in VALUES if opcode not in (DEBUG, LOAD)]
-PLAIN_USED = [opcode for opcode in PLAIN_VALUES if opcode != DEBUG]
 # What DerefOf takes beside a name: locals and arguments, Index, RefOf, Store.
 REFERENCES = [0x60, 0x68, 0x88, 0x71, 0x70]
 CREATE_FIELD, CREATORS = 0x5B13, (0x5B13, 0x8A, 0x8B, 0x8C, 0x8D, 0x8F)
@@ -31,9 +27,15 @@ DESCRIPTORS = list(map(bytes.fromhex, (
 class PlainMaker(Maker):
     """Makes the AML of one set whose text ASL has."""
 
+    BITS = [it for it in range(300) if it != 63]
+    USED = [opcode for opcode in VALUES if opcode not in (DEBUG, LOAD)]
+    PLAIN_USED = [opcode for opcode in PLAIN_VALUES if opcode != DEBUG]
+    STATEMENTS = [opcode for opcode in IN_BODIES if opcode not in PARTS]
+    DEEP = 0
+
     def __init__(self, chance):
         super().__init__(chance)
-        self.strange_terms = self.strange_calls = 0
+        self.strange_terms, self.strange_calls, self.stray_elses = 0, 0, None
         self.known = {("DEV0",): 0}
 
     def table_terms(self, is_first):
@@ -44,10 +46,6 @@ class PlainMaker(Maker):
 
     def length(self, size):
         return package_length(size, 1)
-
-    def bits(self):
-        bits = self.chance.choice([it for it in range(300) if it != 63])
-        return bytes([bits]) if bits < 63 else bytes([0x40 | bits & 15, bits >> 4])
 
     def spelled(self, name):
         return shortest(name)
@@ -60,18 +58,9 @@ class PlainMaker(Maker):
         name = super().scope_name()
         return self.spelled(self.root_name(self.opened)) if name == b"\0" else name
 
-    def statements(self, depth):
-        code = b""
-        for _ in range(self.chance.randrange(5)):
-            if self.chance.random() < 0.3:
-                path = self.chance.choice(list(self.methods))
-                code += self.name_to(path) + b"".join(self.value(depth + 1, "body") for _ in range(self.methods[path]))
-                continue
-            opcode = self.chance.choice(STATEMENTS if depth < MOST_DEPTH else IN_DEEP_BODIES)
-            code += self.operation(opcode, depth, "body")
-            if opcode == IF and self.chance.random() < 0.5:
-                code += self.operation(ELSE, depth, "body")
-        return code
+    def lone_value(self, depth):
+        path = self.chance.choice(list(self.methods))
+        return self.name_to(path) + b"".join(self.value(depth + 1, "body") for _ in range(self.methods[path]))
 
     def parts(self, opcode, depth, inside):
         if opcode in NUMBERS:
@@ -113,12 +102,6 @@ class PlainMaker(Maker):
         if kind == "D" and opcode == NAME_OP:
             return self.operation(self.chance.choice(DATA if depth < MOST_DEPTH else PLAIN_DATA), depth, inside)
         return super().part(kind, opcode, depth, inside)
-
-    def value(self, depth, inside):
-        kind = self.chance.random() if depth < MOST_DEPTH else 1
-        if kind < 0.35:
-            return self.called(depth, inside)
-        return self.operation(self.chance.choice(USED if kind < 0.6 else PLAIN_USED), depth, inside)
 
     def unit(self, depth, inside):
         kind = self.chance.randrange(8)

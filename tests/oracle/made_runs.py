@@ -77,14 +77,11 @@ class RunMaker(Maker):
             return self.operation(self.chance.choice((ELSE, RETURN)), depth, "table")
         opcode = self.chance.choice(IN_RUNS if depth < MOST_DEPTH else IN_DEEP_TABLES)
         if opcode == IF and self.happens(0.1):
-            return self.guard(depth)
+            terms = (self.operation(EXTERNAL, depth, "table") for _ in range(self.chance.randrange(3)))
+            return self.packed(b"\xA0", b"\0" + b"".join(terms))
         self.in_declaration = ROWS[opcode].group == "declaration"
         code = self.operation(opcode, depth, "table")
         return code + self.operation(ELSE, depth, "table") if opcode == IF and self.happens(0.5) else code
-
-    def guard(self, depth):
-        content = b"\0" + b"".join(self.operation(EXTERNAL, depth, "table") for _ in range(self.chance.randrange(3)))
-        return self.packed(b"\xA0", content)
 
     def block(self, opcode, depth, inside):
         if inside != "table":

@@ -52,8 +52,8 @@ def root(revision, rsdt, xsdt, more=b""):
 
 
 def any_root(chance, revision, rsdt, xsdt):
-    length = chance.choice((36, 36, 40))
-    return root(revision, rsdt, xsdt, chance.randbytes(length - 36) if revision >= 2 else b"")
+    more = chance.choice((0, 0, 4))
+    return root(revision, rsdt, xsdt, chance.randbytes(more) if revision >= 2 else b"")
 
 
 def table_list(chance, name, entries):
@@ -78,12 +78,9 @@ def fadt(chance, dsdt):
 
 def record(chance):
     """A record of a MADT: known, of a known type with another length, or of another type."""
-    kind, length = chance.choice(list(RECORDS))
-    how = chance.random()
-    if how < 0.1:
-        length = chance.randrange(2, 20)
-    elif how < 0.3:
-        kind, length = chance.randrange(256), chance.randrange(2, 20)
+    (kind, length), how = chance.choice(list(RECORDS)), chance.random()
+    if how < 0.3:
+        kind, length = kind if how < 0.1 else chance.randrange(256), chance.randrange(2, 20)
     return bytes([kind, length]) + chance.randbytes(length - 2)
 
 
@@ -100,14 +97,9 @@ class SetMaker(Chancy):
 
     def __init__(self, chance, known=(), gives=False, any_run=False, is_deep=False):
         self.chance, self.known, self.gives, self.any_run, self.is_deep = chance, known, gives, any_run, is_deep
-        self.given, self.paths = {}, []
 
     def trial(self):
         self.given, self.paths = {}, []
-        trial = self.plain_trial()
-        return trial._replace(externals=self.externals()) if self.gives and self.happens(0.8) else trial
-
-    def plain_trial(self):
         if self.known and self.happens(0.4):
             files = self.spoiled(self.chance.choice(self.known))
         else:
@@ -115,12 +107,14 @@ class SetMaker(Chancy):
             if self.happens(0.15):
                 files = self.spoiled(files)
         summed = [name for name, data in files.items() if len(data) > 9 and name != MAP_NAME]
-        if summed and self.happens(0.06):
+        is_wrong = summed and self.happens(0.06)
+        if is_wrong:
             name = self.chance.choice(summed)
             data = bytearray(files[name])
             data[8 if data.startswith(ROOT) else 9] ^= self.chance.randrange(1, 256)
-            return Trial({**files, name: bytes(data)}, self.options(False))
-        return Trial(files, self.options(True))
+            files = {**files, name: bytes(data)}
+        options = self.options(not is_wrong)
+        return Trial(files, options, self.externals() if self.gives and self.happens(0.8) else None)
 
     def options(self, is_summed):
         """Flags by their shares. A wrong sum wants its flag more often, code outside methods its own nearly always."""
@@ -158,8 +152,7 @@ class SetMaker(Chancy):
 
     def externals(self):
         """A file of the counts that the tables want, and some that decide nothing, or seldom what they shouldn't."""
-        chance = self.chance
-        given = [*self.given.items()]
+        chance, given = self.chance, [*self.given.items()]
         given += [(path, chance.randrange(count + 1)) for path, count in given if self.happens(0.2)]
         given += [(self.stray_path(), chance.choice(ARGUMENT_COUNTS)) for _ in range(chance.choice((0, 0, 1, 2, 5)))]
         lines = [f"{path_text(path)} {count}" for path, count in given if not self.happens(0.03)]
@@ -178,10 +171,8 @@ class SetMaker(Chancy):
         how = self.chance.random()
         if self.paths and how < 0.4:
             return self.chance.choice(self.paths)
-        segs = [self.chance.choice(STRANGE_SEGMENTS) for _ in range(self.chance.choice((1, 1, 2, 3)))]
-        if self.given and how < 0.6:
-            return (*segs, self.chance.choice(list(self.given))[-1])
-        return tuple(segs)
+        segs = tuple(self.chance.choice(STRANGE_SEGMENTS) for _ in range(self.chance.choice((1, 1, 2, 3))))
+        return (*segs, self.chance.choice(list(self.given))[-1]) if self.given and how < 0.6 else segs
 
     def extra_files(self):
         chance = self.chance
@@ -210,8 +201,7 @@ class SetMaker(Chancy):
         if self.happens(0.08):
             addresses[blocks[0]] += chance.randrange(1 << 32) << 32
         files = {
-            **files,
-            "rsdp.dat": self.root_of(lists, addresses),
+            **files, "rsdp.dat": self.root_of(lists, addresses),
             **{name: table_list(chance, name, self.entries(files, blocks, addresses)) for name in lists},
             "facp.dat": fadt(chance, addresses[blocks[0]]),
         }

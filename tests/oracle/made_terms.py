@@ -162,7 +162,6 @@ class TermMaker(Chancy):
         return [self.maybe(first), missed, *late]
 
     def scene(self, *texts):
-        """The names of a scene."""
         names = [root_name(text.split(".")) for text in texts]
         self.paths += [tuple(name.segs) for name in names]
         return names

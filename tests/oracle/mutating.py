@@ -5,44 +5,29 @@ import contextlib
 import functools
 import re
 from collections import namedtuple
-from dataclasses import dataclass
 
 from any_run import Namespace, RunReader
 from dumps import HEADER_LENGTH
 from folders import MAP_NAME
 from made_code import LEADS, LIKELY_BYTES, WIDEST, damaged, package_length
-from made_sets import BLOCKS, Trial, sealed
-from reading import EXTERNAL, METHOD, ROWS, Reader, Refused, is_name_lead
+from made_sets import BLOCKS, SetMaker, Trial, sealed
+from reading import EXTERNAL, METHOD, NAME_LEADS, ROWS, Reader, Refused
 
 SEGMENT = re.compile(rb"[A-Z_][A-Z0-9_]{3}")
 MOST_TERMS, LONGEST_TERM, MOST_CHANGES = 3000, 400, 4
 Span = namedtuple("Span", "start end")
+# Where a package length stands, its bytes, and where the package ends
+Package = namedtuple("Package", "at width end")
+# Where the terms of a table's AML stand, as far as it can be read, those of them in bodies of methods, and its packages
+Layout = namedtuple("Layout", "terms in_bodies packages")
 
 
-class Package(namedtuple("Package", "at width end")):
-    """Where a package length stands, its bytes, and where the package ends."""
-
-    def holds(self, span):
-        return self.at + self.width <= span.start and span.end <= self.end
-
-
-class Layout:
-    """Where the terms and the packages of a table's AML stand, as far as it can be read, and which of the terms stand in
-    the bodies of methods."""
-
-    def __init__(self):
-        self.terms, self.in_bodies, self.packages = [], [], []
-
-
-@dataclass
 class Surveying:
     """What a reader does that keeps in a `layout` where terms and packages stand. Its code is that of a table from the byte
     `base` on."""
 
-    layout: Layout | None = None
-    base: int = 0
-
-    def survey(self):
+    def survey(self, layout, base=0):
+        self.layout, self.base = layout, base
         with contextlib.suppress(Refused):
             self.read()
 
@@ -62,12 +47,10 @@ class Surveying:
         return super().operation(start, opcode, at, end, *rest)
 
 
-@dataclass
 class BodySurveyor(Surveying, Reader):
     pass
 
 
-@dataclass
 class TableSurveyor(Surveying, RunReader):
     pass
 
@@ -75,13 +58,11 @@ class TableSurveyor(Surveying, RunReader):
 @functools.lru_cache(maxsize=32)
 def layouts_of(codes):
     """The layouts of tables in load order, each up to its first fault, with the bodies of the methods there."""
-    layouts, space = [Layout() for _ in codes], Namespace()
+    layouts, space = [Layout([], [], []) for _ in codes], Namespace()
     for table, (code, layout) in enumerate(zip(codes, layouts)):
-        TableSurveyor(code, layout=layout, space=space, table=table).survey()
-    for method in space.methods:
-        body = codes[method.table][method.start:method.end]
-        arity = space.arity(method.path)
-        BodySurveyor(body, arity, method.path, layout=layouts[method.table], base=method.start).survey()
+        TableSurveyor(code, space=space, table=table).survey(layout)
+    for path, table, start, end in space.methods:
+        BodySurveyor(codes[table][start:end], space.arity(path), path).survey(layouts[table], start)
     return layouts
 
 
@@ -92,9 +73,10 @@ def replaced(code, layout, span, new):
 
 def stretched(code, layout, span, grown):
     """The code with the packages around a span by so many bytes longer."""
-    for at, width, end in sorted((one for one in layout.packages if one.holds(span)), reverse=True):
-        length = package_length(max(end - at - width + grown, 0), width)
-        code, grown = code[:at] + length + code[at + width:], grown + len(length) - width
+    for at, width, end in sorted(layout.packages, reverse=True):
+        if at + width <= span.start and span.end <= end:
+            length = package_length(max(end - at - width + grown, 0), width)
+            code, grown = code[:at] + length + code[at + width:], grown + len(length) - width
     return code
 
 
@@ -131,7 +113,7 @@ class Mutator:
 
     def damage(self, code, layout):
         start, end = span = self.span(layout)
-        return replaced(code, layout, span, damaged(self.chance, code[start:end])) if code else damaged(self.chance, code)
+        return replaced(code, layout, span, damaged(self.chance, code[start:end]))
 
     def rename(self, code, layout):
         places = [match.start() for match in SEGMENT.finditer(code)]
@@ -142,10 +124,10 @@ class Mutator:
 
     def change_term(self, code, layout):
         """A term is gone, stands there again and again, or is another one of the table."""
-        start, end = self.span(layout)
+        start, end = span = self.span(layout)
         how = self.chance.randrange(3)
         if how == 0:
-            return replaced(code, layout, Span(start, end), b"")
+            return replaced(code, layout, span, b"")
         if how == 1:
             return replaced(code, layout, Span(end, end), code[start:end] * self.chance.choice((1, 1, 2, 30)))
         return replaced(code, layout, self.span(layout), code[start:end])
@@ -171,9 +153,8 @@ class Mutator:
 
     def change_opcode(self, code, layout):
         start, _ = self.span(layout)
-        width = 2 if code[start:start + 1] == b"\x5b" else 1
-        span = Span(start, min(start + width, len(code)))
-        return replaced(code, layout, span, self.chance.choice(list(LEADS.values())))
+        end = min(start + (2 if code[start:start + 1] == b"\x5b" else 1), len(code))
+        return replaced(code, layout, Span(start, end), self.chance.choice(list(LEADS.values())))
 
     def change_flags(self, code, layout):
         """Another byte behind the name of a Method or an External, in which the count of arguments stands."""
@@ -204,7 +185,7 @@ class Mutator:
 def name_end(code, at):
     """Where the name at an offset ends, or the offset itself where none stands there."""
     with contextlib.suppress(Refused):
-        if at < len(code) and is_name_lead(code[at]):
+        if at < len(code) and code[at] in NAME_LEADS:
             return Reader(code).name(at, len(code))[1]
     return at
 
@@ -213,15 +194,38 @@ def is_block(data):
     return data.startswith(BLOCKS) and len(data) >= HEADER_LENGTH
 
 
-class SetMutator:
-    """Changes one set after another, with terms of those that it learned to know."""
+class MutatedMaker(SetMaker):
+    """Makes sets with changes, of those of a SetMaker and of known ones, with terms of those that it learned to know."""
 
-    def __init__(self, chance):
-        self.chance, self.terms = chance, []
+    def __init__(self, chance, *others):
+        super().__init__(chance, *others)
+        self.terms = []
         self.mutator = Mutator(chance, self.terms)
         more = lambda files, name: {**files, name: files[name] + chance.randbytes(chance.choice((1, 4, 40)))}
         without = lambda files, name: {kept: data for kept, data in files.items() if kept != name}
         self.ways = [self.file_bytes, self.header, self.file_cut, more, without, self.with_copy, self.halves]
+        for files in self.known:
+            self.learn(files)
+
+    def trial(self):
+        if self.known and self.happens(0.6):
+            files = self.chance.choice(self.known)
+            trial = Trial(files, self.options(True), self.known_externals(files))
+        else:
+            trial = super().trial()
+            self.learn(trial.files)
+        for _ in range(self.chance.choice((1, 1, 1, 2, MOST_CHANGES))):
+            trial = trial._replace(files=self.mutated(trial.files))
+        return trial
+
+    def known_externals(self, files):
+        """A file for `--externals` with names that stand in the tables."""
+        if not self.gives or self.happens(0.2):
+            return None
+        found = {segment.decode() for code in blocks_of(files)[1] for segment in SEGMENT.findall(code)}
+        segments = sorted(found) or ["AAAA"]
+        paths = [".".join(self.chance.choices(segments, k=self.chance.choice((1, 1, 1, 2, 3)))) for _ in range(20)]
+        return "".join(f"\\{path} {self.chance.randrange(8)}\n" for path in paths).encode()
 
     def learn(self, files):
         """Keeps terms of a set to be put into others, in place of some of those kept."""
@@ -236,7 +240,6 @@ class SetMutator:
                     self.terms[self.chance.randrange(MOST_TERMS)] = term
 
     def mutated(self, files):
-        """The files with one change."""
         names, codes = blocks_of(files)
         if not names or self.chance.random() < 0.08:
             return self.chance.choice(self.ways)(files, self.chance.choice(list(files))) if files else {}
@@ -251,7 +254,7 @@ class SetMutator:
     # ---- ways to change a set, in a file of this name or in others
 
     def file_bytes(self, files, name):
-        return {**files, name: self.mutator.flip(files[name], Layout()) if files[name] else b"\0"}
+        return {**files, name: self.mutator.flip(files[name], Layout([], [], [])) if files[name] else b"\0"}
 
     def header(self, files, name):
         """A byte of a header, mostly with the checksum repaired."""
@@ -290,33 +293,3 @@ def blocks_of(files):
     """The names of the definition blocks with a whole header, the DSDT first, and the AML of each."""
     names = sorted((name for name, data in files.items() if is_block(data)), key=lambda name: (files[name][:4], name))
     return names, tuple(files[name][HEADER_LENGTH:] for name in names)
-
-
-class MutatedMaker:
-    """Makes sets with changes, in place of a maker of sets: of its sets, and of known ones."""
-
-    def __init__(self, maker):
-        self.maker, self.chance, self.known = maker, maker.chance, maker.known
-        self.mutator = SetMutator(self.chance)
-        for files in self.known:
-            self.mutator.learn(files)
-
-    def trial(self):
-        if self.known and self.chance.random() < 0.6:
-            files = self.chance.choice(self.known)
-            trial = Trial(files, self.maker.options(True), self.known_externals(files))
-        else:
-            trial = self.maker.trial()
-            self.mutator.learn(trial.files)
-        for _ in range(self.chance.choice((1, 1, 1, 2, MOST_CHANGES))):
-            trial = trial._replace(files=self.mutator.mutated(trial.files))
-        return trial
-
-    def known_externals(self, files):
-        """A file for `--externals` with names that stand in the tables."""
-        if not self.maker.gives or self.chance.random() < 0.2:
-            return None
-        found = {segment.decode() for code in blocks_of(files)[1] for segment in SEGMENT.findall(code)}
-        segments = sorted(found) or ["AAAA"]
-        paths = [".".join(self.chance.choices(segments, k=self.chance.choice((1, 1, 1, 2, 3)))) for _ in range(20)]
-        return "".join(f"\\{path} {self.chance.randrange(8)}\n" for path in paths).encode()

@@ -1,14 +1,13 @@
 """The text of terms, namespaces and definition blocks after docs/listing.md, line by line."""
 
 from loading import path_text
-from reading import METHOD, Name, Named, Nothing, Op
+from reading import METHOD, Name, Named, Op
 
 CONSTANTS = {0x0A, 0x0B, 0x0C, 0x0D, 0x0E}
 UNIT_WORDS = {"access": "Access", "extended": "ExtendedAccess"}
 
 
 def quoted(text):
-    """Bytes in double quotes."""
     plain = (chr(byte) if 0x20 <= byte <= 0x7E and byte not in b'"\\' else f"\\x{byte:02X}" for byte in text)
     return '"' + "".join(plain) + '"'
 
@@ -26,7 +25,7 @@ def hexadecimal(data):
 
 
 def inline(part):
-    if isinstance(part, Nothing):
+    if part is None:
         return ""
     if isinstance(part, Name):
         return str(part)

@@ -47,10 +47,13 @@ FIELD_LISTS = {0x5B81, 0x5B86, 0x5B87}
 TARGETS = set(range(0x60, 0x6F)) | {0x5B31, 0x71, 0x83, 0x88}
 DATA = {0x00, 0x01, 0xFF, 0x5B30, 0x0A, 0x0B, 0x0C, 0x0D, 0x0E, 0x11, 0x12, 0x13}
 KINDS = {
-    0x08: "Name", 0x5B01: "Mutex", 0x5B02: "Event", 0x5B80: "Region", 0x5B88: "DataRegion", 0x5B82: "Device", 0x5B83: "Processor",
-    0x5B84: "PowerResource", 0x5B85: "ThermalZone", 0x5B13: "BufferField", 0x8A: "BufferField", 0x8B: "BufferField",
-    0x8C: "BufferField", 0x8D: "BufferField", 0x8F: "BufferField",
+    0x08: "Name", 0x5B01: "Mutex", 0x5B02: "Event", 0x5B80: "Region", 0x5B88: "DataRegion", 0x5B82: "Device",
+    0x5B83: "Processor", 0x5B84: "PowerResource", 0x5B85: "ThermalZone",
+    **dict.fromkeys((0x5B13, 0x8A, 0x8B, 0x8C, 0x8D, 0x8F), "BufferField"),
 }
+# The bytes that a segment may begin with, and a name
+LETTERS = {*b"ABCDEFGHIJKLMNOPQRSTUVWXYZ_"}
+NAME_LEADS = LETTERS | {*b"\\^./"}
 
 
 class Name(namedtuple("Name", "root ups segs")):
@@ -70,17 +73,13 @@ class Name(namedtuple("Name", "root ups segs")):
         return [] if path is None else [path]
 
 
-class Nothing:
-    """A target that isn't there."""
-
-
 # A name with its arguments
 Named = namedtuple("Named", "name args")
 
 
 @dataclass
 class Op:
-    """Parts are terms, names, bytes of a text, or pairs of a width and a number."""
+    """Parts are terms, names, bytes of a text, pairs of a width and a number, or None for a target that isn't there."""
 
     opcode: int
     parts: list
@@ -100,14 +99,6 @@ class Op:
         if self.opcode in FIELD_LISTS:
             return [Name(False, 0, [unit[1]]) for unit in self.tail if unit[0] == "unit"]
         return []
-
-
-def is_lead_char(byte):
-    return 0x41 <= byte <= 0x5A or byte == 0x5F
-
-
-def is_name_lead(byte):
-    return is_lead_char(byte) or byte in (0x5C, 0x5E, 0x2E, 0x2F)
 
 
 @dataclass
@@ -145,13 +136,12 @@ class Reader:
     def segment(self, at, end):
         for n in range(4):
             byte = self.byte(at + n, end)
-            if not (is_lead_char(byte) or n and 0x30 <= byte <= 0x39):
+            if not (byte in LETTERS or n and 0x30 <= byte <= 0x39):
                 raise Refused("BadName", at + n)
         return self.code[at:at + 4].decode()
 
     def name(self, at, end):
-        root = self.byte(at, end) == 0x5C
-        ups = 0
+        root, ups = self.byte(at, end) == 0x5C, 0
         at += root
         while not root and self.byte(at, end) == 0x5E:
             ups, at = ups + 1, at + 1
@@ -185,12 +175,12 @@ class Reader:
         lead = self.byte(at, end)
         if level > MOST_LEVELS:
             raise Refused("TooDeep", at)
-        if is_name_lead(lead):
+        if lead in NAME_LEADS:
             if position in ("module", "guard"):
                 raise Refused("ModuleCode", at)
             return self.named(at, end, position, level)
         if position == "S" and lead == 0x00:
-            return Nothing(), at + 1
+            return None, at + 1
         opcode, rest = (0x5B00 | self.byte(at + 1, end), at + 2) if lead == 0x5B else (lead, at + 1)
         if opcode not in ROWS:
             raise Refused("UnknownOp", at)
@@ -297,7 +287,7 @@ class Reader:
             if level > MOST_LEVELS:
                 raise Refused("TooDeep", at)
             return self.operation(at, BUFFER, at + 1, end, "T", level)
-        if lead != 0x00 and not is_name_lead(lead):
+        if lead != 0x00 and lead not in NAME_LEADS:
             raise Refused("BadName", at)
         name, at = self.segmented(at, end)
         return Named(name, []), at

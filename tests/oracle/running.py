@@ -10,7 +10,6 @@ acpidis.
 import pathlib
 import sys
 from collections import namedtuple
-from dataclasses import dataclass, field, fields
 
 from trying import asked
 from any_run import load
@@ -23,36 +22,21 @@ from reading import Refused
 DONE, REFUSED, RAW = 0, 1, 3
 
 
-def flag(share):
-    """A field for an option without a value, and how many of the made-up sets have it: 0 is none, 1 all."""
-    return field(default=False, metadata={"share": share})
+# The options with a value, of which type, and those without, each with its share of the made-up sets: 0 is none, 1 all.
+VALUES = {"workers": int, "externals": str}
+FLAGS = {"any_sum": 0.2, "any_run": 0, "unknown_zero": 0.25, "check": 0.15}
 
 
-@dataclass(frozen=True)
-class Options:
-    """The options of a run. What else has to know them goes by these fields, so that none is named twice."""
-
-    workers: int | None = field(default=None, metadata={"type": int})
-    any_sum: bool = flag(0.2)
-    any_run: bool = flag(0)
-    unknown_zero: bool = flag(0.25)
-    check: bool = flag(0.15)
-    externals: str | None = field(default=None, metadata={"type": str})
+class Options(namedtuple("Options", [*VALUES, *FLAGS], defaults=[None] * len(VALUES) + [False] * len(FLAGS))):
+    """The options of a run. What else has to know them goes by these tables, so that none is named twice."""
 
     def words(self):
         """The options as words of the command line, those with a value first."""
-        given = {it.name: getattr(self, it.name) for it in fields(self) if it.name not in FLAGS}
-        words = [word for name, value in given.items() if value is not None for word in (option_of(name), str(value))]
-        return words + [option_of(name) for name in FLAGS if getattr(self, name)]
-
-
-# The flags, each with its share of the made-up sets.
-FLAGS = {it.name: it.metadata["share"] for it in fields(Options) if "share" in it.metadata}
-
-
-def option_of(name):
-    """A field's name as a word of the command line."""
-    return "--" + name.replace("_", "-")
+        words = []
+        for name, value in self._asdict().items():
+            if value:
+                words += ["--" + name.replace("_", "-"), *([str(value)] if name in VALUES else [])]
+        return words
 
 
 # The status of a run, None where it has none, and what it writes to standard output and to standard error
@@ -113,8 +97,7 @@ def check_lines(names, loaded, bodies):
 
 
 def main():
-    known = {it.name: it.metadata.get("type", False) for it in fields(Options)}
-    words = vars(asked(__doc__, **known, folder=pathlib.Path()))
+    words = vars(asked(__doc__, **VALUES, **dict.fromkeys(FLAGS, False), folder=pathlib.Path()))
     outcome = run_folder(words.pop("folder"), Options(**words))
     sys.stdout.write(outcome.out)
     sys.stderr.write(outcome.err)

@@ -12,10 +12,11 @@ The last line is 'N passed, N failed', by the lists; 150 names are asked of each
 import itertools
 import random
 
-from trying import asked, end
+from trying import asked
 from any_run import Namespace, agreed
 from loading import PREDEFINED, own_count, path_text
 from reading import Name
+from tally import Tally
 
 SEGMENTS = ["AAAA", "BBBB", "_OSI", "_SB_"]
 PATHS = [(one,) for one in SEGMENTS] + [("_SB_", "AAAA"), ("_SB_", "BBBB"), ("_SB_", "AAAA", "BBBB"), ("AAAA", "BBBB")]
@@ -23,6 +24,8 @@ SCOPES = [(), *PATHS, ("_SB_", "AAAA", "AAAA")]
 NAMES = [Name(False, 0, [one]) for one in SEGMENTS[:3]] + [Name(True, 0, ["_SB_", "AAAA"]), Name(False, 1, ["BBBB"])]
 LOCALS = [(), {("AAAA",)}, {("_SB_", "BBBB")}]
 MOST_MAYBES, MOST_OPEN = 7, 1
+# What the kind of an open Alias has behind its target
+IS_OPEN = (True,)
 
 
 def made_declarations(chance):
@@ -34,12 +37,8 @@ def made_declarations(chance):
         is_open = opens < MOST_OPEN and chance.random() < 0.3
         kinds = [("Name",), ("Alias", chance.choice(PATHS), is_open), *(("Method", count) for count in (0, 1, 1, 2))]
         made.append((chance.choice(PATHS), chance.choice(kinds), is_sure))
-        opens += is_open_alias(made[-1][1])
+        opens += made[-1][1][2:] == IS_OPEN
     return made
-
-
-def is_open_alias(kind):
-    return kind[0] == "Alias" and kind[2]
 
 
 def space_of(declarations, externals):
@@ -56,7 +55,7 @@ def runs_of(declarations):
     out."""
     kept = []
     for _, kind, is_sure in declarations:
-        aims = [("Alias", path) for path in PATHS] if is_open_alias(kind) else [kind[:2]]
+        aims = [("Alias", path) for path in PATHS] if kind[2:] == IS_OPEN else [kind[:2]]
         kept.append(aims if is_sure else [None, *aims])
     for kinds in itertools.product(*kept):
         run = {}
@@ -101,17 +100,15 @@ def fails_of(declarations, externals):
 
 
 def main():
-    words = asked(__doc__, lists=200, seed=0)
-    chance, failed = random.Random(words.seed), 0
+    words, checks = asked(__doc__, lists=200, seed=0), Tally()
+    chance = random.Random(words.seed)
     for _ in range(words.lists):
         declarations = made_declarations(chance)
         # What Externals say of some paths
         counts = [(chance.choice(PATHS), chance.randrange(3)) for _ in range(chance.choice((0, 0, 1, 3)))]
-        fails = list(fails_of(declarations, counts))
-        failed += bool(fails)
-        for fail in fails[:1]:
-            print(f"FAILED {fail}")
-    end(words.lists - failed, failed)
+        fail = next(fails_of(declarations, counts), None)
+        checks.is_so(fail, not fail)
+    checks.end()
 
 
 if __name__ == "__main__":

@@ -32,10 +32,9 @@ def asked(about, **names):
         elif isinstance(value, (pathlib.Path, tuple)):
             how = {"nargs": "*"} if value == () else {"nargs": "?", "default": value}
             words.add_argument(name, type=pathlib.Path, **how)
-        elif isinstance(value, type):
-            words.add_argument(option, type=value)
         else:
-            words.add_argument(option, type=type(value), default=value)
+            kind, default = (value, None) if isinstance(value, type) else (type(value), value)
+            words.add_argument(option, type=kind, default=default)
     found = words.parse_args()
     if "program" in names and not getattr(found, "read", False):
         found.program = built(found.program)
