@@ -18,7 +18,6 @@ import re
 import sys
 
 from acpidis_tools import aml, command, running
-from acpidis_tools.listing import WORD
 from acpidis_tools.terms import places, terms_in
 
 SHOWN = 100
@@ -35,20 +34,19 @@ DECLARED = re.compile(
 
 def calls(text):
     """The method or scope, the name, its count, the operator and the line of each such name."""
-    own, own_of = set(), None
-    following = [*text.lines[1:], ("", text.namespace.root, None)]
-    for (line, scope, method), (behind, scope_behind, _) in zip(text.lines, following):
-        if method is not own_of:
-            own, own_of = set(), method
+    own, own_of, space = set(), None, text.namespace
+    for line, behind in zip(text.lines, [*text.lines[1:], None]):
+        if line.method is not own_of:
+            own, own_of = set(), line.method
         # The names that stand as targets or objects
-        found = [it for it in places(terms_in(WORD.split(line))) if running.NAME.fullmatch(it[0].word)]
+        found = [it for it in places(terms_in(line.pieces)) if running.NAME.fullmatch(it[0].word)]
         for operator, name in ((place.within.word, term.word) for term, place in found if place.kind == "S"):
-            counts = [kind for kind in text.namespace.may_be(scope, name, own) if isinstance(kind, int)]
-            if any(counts) and (operator not in OF_METHODS or running.is_lone(behind, scope_behind, text.namespace)):
-                yield scope.path(), name, max(counts), operator, line
-        declared = DECLARED.match(line) if method else None
+            counts = [kind for kind in space.may_be(line.scope, name, own) if isinstance(kind, int)]
+            if any(counts) and (operator not in OF_METHODS or behind and running.is_lone(behind, space)):
+                yield line.scope.path(), name, max(counts), operator, line.bare
+        declared = DECLARED.match(line.bare) if line.method else None
         if declared:
-            own.add(text.namespace.place(scope, next(filter(None, declared.groups()))))
+            own.add(space.place(line.scope, next(filter(None, declared.groups()))))
 
 
 def add_given(file, namespace):
@@ -67,10 +65,10 @@ def listing_of(asked):
     if run.refused:
         raise running.refused(run.refused, asked.options)
     namespace = run.listing.namespace
-    for line, scope, _ in run.listing.lines:
-        form = EXTERNAL.fullmatch(line)
+    for line in run.listing.lines:
+        form = EXTERNAL.fullmatch(line.bare)
         if form:
-            node = namespace.place(scope, form[1])
+            node = namespace.place(line.scope, form[1])
             node.count = max(aml.SMALL[form[4]] if form[4] in aml.SMALL else int(form[4], 16), node.count or 0)
     if "--externals" in asked.options:
         add_given(asked.options["--externals"], namespace)
@@ -82,8 +80,8 @@ def main():
     found = list(calls(run.listing))
     for scope, name, count, operator, line in found:
         print(f"{scope}: {name} takes {count}, in {operator}: {line[:SHOWN]}")
-    if run.faults:
-        bodies = "1 raw body isn't" if len(run.faults) == 1 else f"{len(run.faults)} raw bodies aren't"
+    if run.raw:
+        bodies = "1 raw body isn't" if len(run.raw) == 1 else f"{len(run.raw)} raw bodies aren't"
         command.tell(f"{bodies} looked through")
     sys.exit(3 if found else 0)
 

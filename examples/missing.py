@@ -33,41 +33,28 @@ ANYWHERE = re.compile(rf"(?=({running.SEGMENT}))".encode())
 OUTSIDE = re.compile(r'table "[^"]*": ModuleCall (\\\S+)')
 
 
-class Body:
-    """A raw body: its method's number in the text and its path, the word of its fault, its offset, its bytes."""
-
-    def __init__(self, number, path, fault, raw):
-        self.number, self.path, self.fault, self.raw = number, path, fault, raw
-        self.word, _, at = fault.partition(" at ")
-        self.at = int(at) if at.isdigit() else 0
-
-    def name(self):
-        """The path of the name at the fault, as a line for --externals wants it; None where it leads above the root."""
-        name = name_in(self.raw[self.at :])
-        if name is None:
-            what = f"no name stands at {self.at} of a body that wants one: is this another version of acpidis?"
-            raise running.Unusable(what)
-        space = aml.Space(0)
-        place = space.given_place(space.node(self.path), name)
-        return place and place.path()
-
-
-def bodies_of(run):
-    """The raw bodies of a run: each line of standard error belongs to the next raw body of the text."""
-    raws = [(number, method.raw) for number, method in enumerate(run.listing.methods) if method.raw is not None]
-    return [Body(number, path, fault, raw) for (number, raw), (path, fault) in zip(raws, run.faults)]
+def name_of(body):
+    """The path of the name that a raw body waits for, as a line for --externals wants it; None where it leads above the root."""
+    at = body.fault.at or 0
+    name = name_in(body.raw[at:])
+    if name is None:
+        raise running.Unusable(f"no name stands at {at} of a body that wants one: is this another version of acpidis?")
+    space = aml.Space(0)
+    place = space.given_place(space.node(body.node.path()), name)
+    return place and place.path()
 
 
 class Trial:
     """What comes of the bodies that wait for a name, where it has a count, or of what stands outside the methods, where
     the set is refused for the name."""
 
-    def __init__(self, run, raw, bodies):
+    def __init__(self, run, bodies):
         self.refused, self.faults, values = run.refused, [], []
         if not run.refused:
-            self.faults = [raw[body.number].fault for body in bodies if body.number in raw]
-            read = [run.listing.methods[body.number] for body in bodies if body.number not in raw]
-            values = [it.lone_values(run.listing.namespace) for it in read] if bodies else [run.listing.lone_values()]
+            now = [run.listing.methods[body.number] for body in bodies]
+            self.faults = [body.fault for body in now if body.fault]
+            read = [body.lines for body in now if not body.fault] if bodies else [None]
+            values = list(map(run.listing.lone_values, read))
         # What is read, without and with values that stand alone, and how many these are
         self.read, self.loose, self.values = values.count(0), len(values) - values.count(0), sum(values)
 
@@ -110,26 +97,24 @@ class Search:
         if run.refused and len(names) > 1:
             half = len(names) // 2
             return {**self.outcomes(names[:half], count, more), **self.outcomes(names[half:], count, more)}
-        raw = {} if run.refused else {body.number: body for body in bodies_of(run)}
-        return {name: Trial(run, raw, self.waiting[name]) for name in names}
+        return {name: Trial(run, self.waiting[name]) for name in names}
 
     def go(self):
         """Goes round until no body waits, and answers the bodies that are raw all the same."""
         while True:
             run = self.run(self.counts)
-            bodies = [] if run.refused else bodies_of(run)
             outside = OUTSIDE.fullmatch(run.refused or "")
             # For a name outside the methods, for which the set is refused, no body waits.
-            found = {outside[1]: []} if outside and outside[1] not in self.counts else self.found_in(bodies)
+            found = {outside[1]: []} if outside and outside[1] not in self.counts else self.found_in(run.raw)
             if run.refused and not found:
                 raise running.refused(run.refused, self.options)
             if not found:
-                return bodies
+                return run.raw
             if len(self.counts) + len(found) > MOST_NAMES:
                 raise running.Unusable(f"more than {MOST_NAMES} names are missing: a table is, more likely")
             if not run.refused and "--any-run" in self.options:
-                outside = [line for line, _, method in run.listing.lines if method is None]
-                self.outside = {segment for line in outside for segment in SEGMENT.findall(line)}
+                outside = [line for line in run.listing.lines if line.method is None]
+                self.outside = {segment for line in outside for segment in SEGMENT.findall(line.bare)}
             self.waiting.update(found)
             self.rounds.append(sorted(found, key=lambda name: -len(found[name])))
             for names in self.apart(self.rounds[-1]):
@@ -163,7 +148,7 @@ class Search:
     def found_in(self, bodies):
         found = collections.defaultdict(list)
         for body in bodies:
-            name = body.name() if body.word == "UnknownName" else None
+            name = name_of(body) if body.fault.word == "UnknownName" else None
             if name and name not in self.counts:
                 found[name].append(body)
         return found
@@ -219,7 +204,7 @@ def say(text):
 
 def report(name, bodies, trials):
     waiting = "1 body waits" if len(bodies) == 1 else f"{len(bodies)} bodies wait"
-    first = f"{waiting}, the first {bodies[0].path} at {bodies[0].at}" if bodies else "it stands outside the methods"
+    first = f"{waiting}, the first {bodies[0].node.path()} at {bodies[0].fault.at or 0}" if bodies else "it stands outside the methods"
     say(f"{name}: {first}")
     said = {}
     for count in COUNTS:
@@ -264,7 +249,7 @@ def main():
         search.progress.end()
     show(search, all_trials, asked.must_be_one)
     for body in left:  # those that no count mends
-        say(f"{body.path} stays raw: {body.fault}")
+        say(f"{body.node.path()} stays raw: {body.fault}")
 
 
 if __name__ == "__main__":

@@ -60,15 +60,16 @@ def path_text(path: Path) -> str:
 
 
 class Line:
-    """A line of a definition block: every second of its pieces is a word. It may open a block, up to the line `end`.
+    """A line of a definition block: every second of its pieces is a word. It may open a block, up to the line `end`, and
+    stands in that of the line `above`.
 
     `scope` is where its names are read, `method` the path of the method in whose body it stands, `declared` the place
     among its words of the name that it declares."""
 
-    __slots__ = ("number", "depth", "pieces", "end", "scope", "method", "declared")
+    __slots__ = ("number", "depth", "pieces", "above", "end", "scope", "method", "declared")
 
-    def __init__(self, number: int, depth: int, pieces: list[str]):
-        self.number, self.depth, self.pieces = number, depth, pieces
+    def __init__(self, number: int, depth: int, pieces: list[str], above: Line | None):
+        self.number, self.depth, self.pieces, self.above = number, depth, pieces, above
         self.end = 0
         self.scope: Path = ROOT
         self.method: Path | None = None
@@ -84,8 +85,17 @@ class Line:
         return self.pieces[1] if len(self.pieces) > 1 else ""
 
     @property
+    def bare(self) -> str:
+        return "".join(self.pieces)
+
+    @property
     def text(self) -> str:
-        return "  " * self.depth + "".join(self.pieces)
+        return "  " * self.depth + self.bare
+
+    @property
+    def code(self) -> bytes:
+        """The bytes of a raw body."""
+        return bytes.fromhex(self.pieces[2].strip(" {}").replace(",", ""))
 
 
 # The line of a dump, its file and its signature, and the lines below it, with their numbers
@@ -158,10 +168,10 @@ class Reader:
         head = BLOCK.fullmatch(self.peek())
         if not head:
             raise self.refuse()
-        lines = [self.line(0)]
+        lines = [self.line(None)]
         opened = [lines[0]]
         while opened:
-            line = self.line(len(opened))
+            line = self.line(opened[-1])
             lines.append(line)
             if line.pieces == ["}"]:
                 opened.pop().end = line.number
@@ -169,21 +179,20 @@ class Reader:
                 opened.append(line)
         return Block(head[1], lines)
 
-    def line(self, depth: int) -> Line:
-        """The next line, inside so many blocks: what closes the innermost stands one level above."""
+    def line(self, above: Line | None) -> Line:
+        """The next line, in the block of another one: what closes that stands at its level."""
         text = self.peek()
         bare = text.lstrip(" ")
-        if bare == "}":
-            depth -= 1
+        depth = above.depth + (bare != "}") if above else 0
         pieces = WORD.split(bare)
         is_wrong = len(text) - len(bare) != 2 * depth or len(pieces) == 1 and bare != "}"
         is_wrong = is_wrong or bare.startswith("Raw") and not RAW.fullmatch(bare)
         # A name has no small letter.
         is_wrong = is_wrong or depth and bare[0].isupper() and bare[1].islower() and pieces[1] not in TERMS
-        if is_wrong or not all(map(BETWEEN.fullmatch, pieces[::2])):
+        if is_wrong or not BETWEEN.fullmatch("".join(pieces[::2])):
             raise self.refuse()
         self.at += 1
-        return Line(self.at, depth, pieces)
+        return Line(self.at, depth, pieces, above)
 
 
 def check_file(file: str) -> None:

@@ -63,12 +63,10 @@ def line_html(line: Line, sheet: Sheet, is_decoded: bool) -> str:
 
 def raw_html(line: Line, fault: Fault | None) -> str:
     """The bytes of a raw body, the one that the fault is about marked, and the fault."""
-    shown = "".join(line.pieces[2:])
-    code = bytes.fromhex(shown.strip(" {}").replace(",", ""))
-    said = "raw"
+    shown, said = line.pieces[2], "raw"
     if fault:
         said = f"raw: {fault}"
-        at = 2 + 4 * (fault.at if fault.at is not None else len(code))
+        at = 2 + 4 * (fault.at if fault.at is not None else len(line.code))
         if at < len(shown) - 1:
             shown = f"{shown[:at]}<mark>{shown[at:at + 2]}</mark>{shown[at + 2:]}"
             name = name_at(fault, line)
