@@ -153,6 +153,11 @@ def is_lone(line, namespace):
     return bool(CONSTANT.fullmatch(text) or VALUE.fullmatch(text))
 
 
+def check_depth(scope, line, fault):
+    if scope.depth > MOST_SEGMENTS:
+        raise fault(f"line {line.number}: a scope of more than {MOST_SEGMENTS} segments is too deep for this script")
+
+
 class Listing:
     """A text: its namespace, its methods in their order, and its lines but for the ends of blocks, each with the node of its
     scope, and the method in whose body it stands."""
@@ -185,8 +190,7 @@ class Listing:
             return line.scope, line.method
         name = line.pieces[3] if line.pieces[2] == " (" else ""
         node = self.namespace.found(line.scope, name) if line.term == "Scope" else self.namespace.place(line.scope, name)
-        if node.depth > MOST_SEGMENTS:
-            raise Unusable(f"line {line.number}: a scope of more than {MOST_SEGMENTS} segments is too deep for this script")
+        check_depth(node, line, Unusable)
         if line.term != "Method":
             return node, None
         form = METHOD.match(line.bare)

@@ -19,30 +19,30 @@ class Names:
 
     def __init__(self, space):
         self.space, self.own, self.externals, self.uses, self.scopes = space, set(), {}, [], set()
-        self.open = [Scope(space.root, None)]
+        self.inside = {}  # the scopes of what stands in the blocks of lines
 
-    def unit(self, name, used, number):
-        """An element of a field list: a unit that it declares, or a name that it uses. Answers the node of the former."""
+    def scope(self, line):
+        return self.inside.get(line.above) or Scope(self.space.root, None)
+
+    def unit(self, line, name, used):
+        """An element of a field list: a unit that it declares, or a name that it uses."""
         if used:
-            self.uses.append(Use(self.open[-1], terms.Named(used), number))
-        return self.declare(name) if name else None
+            self.uses.append(Use(self.scope(line), terms.Named(used), line.number))
+        if name:
+            self.declare(self.scope(line), name)
 
-    def line(self, word, names, opens, number):
+    def line(self, line, names):
         """A term with these names. Answers the node that it declares."""
-        scope, node, names = self.open[-1], None, list(names)
-        if names and word == "External":
+        scope, node, names = self.scope(line), None, list(names)
+        if names and line.term == "External":
             named = names.pop()
-            self.externals.setdefault(self.space.place(scope.node, named.name), []).append((named, number))
-        elif names and word in aml.NAMED_LAST:
-            node = self.declare(names.pop().name)
-        elif names and word in aml.DECLARERS:
-            node = self.declare(names.pop(0).name)
-        self.uses += [Use(scope, named, number) for named in names]
-        if opens:
-            self.open.append(self.opened(scope, word, node, names))
-            most = running.MOST_SEGMENTS
-            if self.open[-1].node.depth > most:
-                raise NoListing(f"line {number}: a scope of more than {most} segments is too deep for this script")
+            self.externals.setdefault(self.space.place(scope.node, named.name), []).append((named, line.number))
+        elif names and line.term in aml.DECLARERS:
+            node = self.declare(scope, names.pop(-1 if line.term in aml.NAMED_LAST else 0).name)
+        self.uses += [Use(scope, named, line.number) for named in names]
+        if line.end:
+            opened = self.inside[line] = self.opened(scope, line.term, node, names)
+            running.check_depth(opened.node, line, NoListing)
         return node
 
     def opened(self, scope, word, node, names):
@@ -54,8 +54,7 @@ class Names:
             return Scope(node, scope.local)
         return Scope(node if word in aml.OPENERS else scope.node, scope.local)
 
-    def declare(self, name):
-        scope = self.open[-1]
+    def declare(self, scope, name):
         node = self.space.place(scope.node, name)
         (self.own if scope.local is None else scope.local).add(node)
         return node
