@@ -18,13 +18,14 @@ import re
 import sys
 
 from acpidis_tools import aml, command, running
+from acpidis_tools.listing import NAME
 from acpidis_tools.terms import places, terms_in
 
 SHOWN = 100
 # The operators that may take a method, and none of its values.
 OF_METHODS = ("CondRefOf", "ObjectType", "RefOf")
 COUNT = re.compile(r"(\\\S*) ([0-7])")
-EXTERNAL = re.compile(rf"External \(({running.NAME.pattern}), \S+, (Zero|One|0x0[0-7])\)")
+EXTERNAL = re.compile(rf"External \(({NAME.pattern}), \S+, (Zero|One|0x0[0-7])\)")
 # The name that a term of a body declares, a field's unit among them.
 DECLARED = re.compile(
     r"(?:Name|Mutex|Event|OperationRegion|DataRegion) \(([^\s,)]+)|(?:Create\w*Field|Alias) \(.*, ([^\s,)]+)\)"
@@ -39,7 +40,7 @@ def calls(text):
         if line.method is not own_of:
             own, own_of = set(), line.method
         # The names that stand as targets or objects
-        found = [it for it in places(terms_in(line.pieces)) if running.NAME.fullmatch(it[0].word)]
+        found = [it for it in places(terms_in(line.pieces)) if NAME.fullmatch(it[0].word)]
         for operator, name in ((place.within.word, term.word) for term, place in found if place.kind == "S"):
             counts = [kind for kind in space.may_be(line.scope, name, own) if isinstance(kind, int)]
             if any(counts) and (operator not in OF_METHODS or behind and running.is_lone(behind, space)):
@@ -53,7 +54,7 @@ def add_given(file, namespace):
     """The counts of the user's file. What a table's External names has the External's count."""
     for number, line in enumerate(command.read(file).decode("ascii").splitlines(), 1):
         form = COUNT.fullmatch(line)
-        if not form or not running.NAME.fullmatch(form[1]):
+        if not form or not NAME.fullmatch(form[1]):
             raise running.Unusable(f"line {number} of {file} isn't a path and a count")
         node = namespace.node(form[1])
         if node.count is None:
@@ -69,7 +70,7 @@ def listing_of(asked):
         form = EXTERNAL.fullmatch(line.bare)
         if form:
             node = namespace.place(line.scope, form[1])
-            node.count = max(aml.SMALL[form[4]] if form[4] in aml.SMALL else int(form[4], 16), node.count or 0)
+            node.count = max(aml.SMALL[form[2]] if form[2] in aml.SMALL else int(form[2], 16), node.count or 0)
     if "--externals" in asked.options:
         add_given(asked.options["--externals"], namespace)
     return run

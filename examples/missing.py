@@ -21,15 +21,15 @@ import re
 import sys
 import tempfile
 
-from acpidis_tools import aml, command, running
+from acpidis_tools import aml, command, listing, running
 from acpidis_tools.errors import name_in
 
 COUNTS = range(8)
 MOST_NAMES = 1000
 MOST_PASSES = 3
 MOST_RUNS = 1000
-SEGMENT = re.compile(running.SEGMENT)
-ANYWHERE = re.compile(rf"(?=({running.SEGMENT}))".encode())
+SEGMENT = re.compile(listing.SEGMENT)
+ANYWHERE = re.compile(rf"(?=({listing.SEGMENT}))".encode())
 OUTSIDE = re.compile(r'table "[^"]*": ModuleCall (\\\S+)')
 
 

@@ -10,6 +10,7 @@ import sys
 from collections import namedtuple
 
 from acpidis_tools import paths, standard
+from acpidis_tools.paths import Name
 
 HEADER, MOST_LEVELS = 36, 512
 # A level of terms is a few calls deep.
@@ -46,14 +47,6 @@ class Stopped(Exception):
 
 class TooManySteps(Exception):
     """The scopes are so deep that the search for names would take too long."""
-
-
-class Name(namedtuple("Name", "root ups segments")):
-    def __str__(self):
-        return "\\" * self.root + "^" * self.ups + ".".join(self.segments)
-
-    def is_searched(self):
-        return not self.root and not self.ups and len(self.segments) == 1
 
 
 class Term:
@@ -93,15 +86,8 @@ class Space(paths.Tree):
         self.root.is_predefined = True
         self.steps = STEPS_PER_BYTE * size + 100_000
         for segment, kind in standard.PREDEFINED.items():
-            node = self.root.child(segment)
+            node = self.root.at([segment])
             node.is_predefined, node.count = True, int(kind.partition(" ")[2] or 0)
-
-    def start(self, scope, name):
-        """Above the root there is no node."""
-        node = self.root if name.root else scope
-        for _ in range(name.ups):
-            node = node and node.above
-        return node, name.segments, name.is_searched()
 
     def step(self):
         self.steps -= 1

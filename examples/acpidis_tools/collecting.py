@@ -11,7 +11,8 @@ from acpidis_tools.comparison import text_of, texts_of
 from acpidis_tools.decoding import Decoder, flag_words, hardware_name
 from acpidis_tools.errors import Fault, name_at
 from acpidis_tools.listing import HEADER, Block, Dump, Line, Listing, Path, path_of, path_text
-from acpidis_tools.names import FIELD_LISTS, PREDEFINED, Meaning, Names, Sort, name_of
+from acpidis_tools.names import FIELD_LISTS, PREDEFINED, Meaning, Names, Sort
+from acpidis_tools.paths import Name
 from acpidis_tools.resources import Descriptor
 from acpidis_tools.schema import COLUMNS
 from acpidis_tools.standard import DEVICE_NAMES, eisa_number, space_name
@@ -187,7 +188,7 @@ class Collector:
         for line in self.listing.lines:
             if line.term == "External" and not line.method:
                 _, kind, count = (*self.decoder.terms(line)[0].arguments, None, None, None)[:3]
-                path = name_of(line.words[1]).placed(line.scope) or ()
+                path = Name.of(line.words[1]).placed(line.scope) or ()
                 before, most = found.get(path, ("External", 0))
                 is_method = kind is not None and kind.number == METHOD_OBJECT or before == "Method"
                 found[path] = "Method" if is_method else before, max(most, (count.number if count else 0) or 0)
@@ -202,7 +203,7 @@ class Collector:
         count, serialized, level = flags if len(flags) == 3 else ("0", "", "0")
         is_raw = body.term == "Raw" and body.method is not None
         fault = self.faults.get(body.number) if is_raw else None
-        path = name_of(line.words[1]).placed(line.scope) or ()
+        path = Name.of(line.words[1]).placed(line.scope) or ()
         return self.add(
             "method", self.ids[path], number_in(count), int(serialized == "Serialized"), number_in(level), int(is_raw),
             str(fault) if fault else None, name_at(fault, body), self.file, line.number,
@@ -365,7 +366,7 @@ class Collector:
         form = SOURCE.fullmatch(source)
         if not form:
             return source or None
-        name = name_of(form[1] + ".".join(part.ljust(4, "_") for part in form[2].split(".")))
+        name = Name.of(form[1] + ".".join(part.ljust(4, "_") for part in form[2].split(".")))
         device = self.nearest(scope, DEVICES)
         paths = self.names.find(device, name) or name.candidates(device)[-1:]
         return path_text(paths[0]) if paths else source

@@ -12,10 +12,10 @@ from collections import namedtuple
 from typing import BinaryIO
 
 SEGMENT = r"[A-Z_][A-Z0-9_]{3}"
-NAME = rf"(?:\\|\^+)?{SEGMENT}(?:\.{SEGMENT})*(?!\w)|\\|\^+"
+NAME = re.compile(rf"(?:\\|\^+)?{SEGMENT}(?:\.{SEGMENT})*(?!\w)|\\|\^+")
 TEXT = r'"[^"]*"'
 # A name has no small letter, and the word of each opcode has one.
-WORD = re.compile(rf"({TEXT}|0x[0-9A-F]+|{NAME}|[A-Z](?=[A-Z]{{0,30}}[a-z])[A-Za-z]{{1,30}}[0-9]?)")
+WORD = re.compile(rf"({TEXT}|0x[0-9A-F]+|{NAME.pattern}|[A-Z](?=[A-Z]{{0,30}}[a-z])[A-Za-z]{{1,30}}[0-9]?)")
 BETWEEN = re.compile(r"[ (){},0-9A-F]*")
 PATH = rf"\\(?:{SEGMENT}(?:\.{SEGMENT})*)?"
 # With --any-run a row may have two marks: what only may stand, and what is declared several times.

@@ -5,10 +5,10 @@ from __future__ import annotations
 from collections import defaultdict, namedtuple
 from collections.abc import Container
 from enum import Enum
-from functools import lru_cache
 
 from acpidis_tools import aml, standard
 from acpidis_tools.listing import ROOT, Line, Listing, NoListing, Path, path_text
+from acpidis_tools.paths import Name
 
 PREDEFINED = {ROOT: "Scope", **{(segment,): kind for segment, kind in standard.PREDEFINED.items()}}
 SCOPES, FIELD_LISTS = aml.OPENERS, aml.FIELD_LISTS
@@ -37,28 +37,8 @@ NOWHERE = Meaning(Sort.NOTHING)
 Uses = dict[Path, list[int]]
 
 
-class Name(namedtuple("Name", "is_rooted ups segments")):
-    def placed(self, scope: Path) -> Path | None:
-        if self.is_rooted:
-            return self.segments
-        return None if self.ups > len(scope) else scope[:len(scope) - self.ups] + self.segments
-
-    def candidates(self, scope: Path) -> list[Path]:
-        if not self.is_rooted and not self.ups and len(self.segments) == 1:
-            return [scope[:length] + self.segments for length in range(len(scope), -1, -1)]
-        path = self.placed(scope)
-        return [] if path is None else [path]
-
-
 def is_name(word: str) -> bool:
     return word[0] not in '"0' and word == word.upper()
-
-
-@lru_cache(maxsize=None)
-def name_of(text: str) -> Name:
-    bare = text.lstrip("\\^")
-    ups = 0 if text.startswith("\\") else len(text) - len(bare)
-    return Name(text.startswith("\\"), ups, tuple(bare.split(".")) if bare else ROOT)
 
 
 # A block that is open: the line that ends it, where the terms inside it stand, and whether these are sure to
@@ -159,7 +139,7 @@ class Names:
             return path, inner.is_sure and self.is_sure(path) and self.is_scope(path)
         elif not inner.is_field_list and line.term not in FIELD_LISTS:
             for word in filter(is_name, line.words):
-                self.then[line.number, word] = self.find(line.scope, name_of(word))
+                self.then[line.number, word] = self.find(line.scope, Name.of(word))
         return line.scope, inner.is_sure and line.term not in BLOCKS
 
     def declare_path(self, line: Line, is_sure: bool) -> tuple[Path, bool]:
@@ -182,7 +162,7 @@ class Names:
         return path if line.term == "Method" else line.scope, is_sure
 
     def place(self, line: Line, word: str) -> Path:
-        path = name_of(word).placed(line.scope)
+        path = Name.of(word).placed(line.scope)
         if path is None or word and not is_name(word):
             raise NoListing(f"line {line.number} declares nothing that a listing of acpidis can")
         if len(path) > MOST_SEGMENTS:
@@ -192,7 +172,7 @@ class Names:
     def lead(self, line: Line, word: str) -> Path:
         """Where the source of an Alias, or the name of a Scope, leads by what stands before it: a Scope of nothing opens
         the path at which it is placed."""
-        found = self.find(line.scope, name_of(word))
+        found = self.find(line.scope, Name.of(word))
         if not found and line.term == "Alias":
             raise NoListing(f"line {line.number}: {word} leads nowhere")
         return found[0] if found else self.place(line, word)
@@ -230,7 +210,7 @@ class Names:
         ]
 
     def declaration(self, line: Line, word: str) -> Meaning:
-        path = name_of(word).placed(line.scope)
+        path = Name.of(word).placed(line.scope)
         if line.method:
             return Meaning(Sort.LOCAL, path, str(line.number))
         is_first = path is None or self.lines[path] is line
@@ -247,10 +227,10 @@ class Names:
         if self.then.get((line.number, word)):
             return self.leading_to(self.then[line.number, word], own)
         if own:
-            return self.leading_to(self.find(line.scope, name_of(word), own), own)
+            return self.leading_to(self.find(line.scope, Name.of(word), own), own)
         key = line.scope, word
         if key not in self.found:
-            self.found[key] = self.leading_to(self.find(line.scope, name_of(word)), own)
+            self.found[key] = self.leading_to(self.find(line.scope, Name.of(word)), own)
         return self.found[key]
 
     def leading_to(self, paths: list[Path], own: dict[Path, int]) -> Meaning:

@@ -9,15 +9,13 @@ from collections import namedtuple
 
 from acpidis_tools import aml, paths, standard
 from acpidis_tools.errors import Fault, FAULT
-from acpidis_tools.listing import SEGMENT, NoListing, read_listing
+from acpidis_tools.listing import NAME, NoListing, read_listing
 
 LAUNCHER = pathlib.Path(__file__).resolve().parents[2] / "acpidis"
 # Beside the script, where it is installed
 BIN = LAUNCHER.parents[1] / "bin"
-NAME = re.compile(rf"(\\|\^*)({SEGMENT}(?:\.{SEGMENT})*|)")
 # A name is looked for in each scope around it, which a hostile set could make many.
 MOST_SEGMENTS = 64
-MOST_SHOWN = 40
 METHOD = re.compile(r"Method \((\S+), ([0-7]), ")
 RAW = re.compile(rb"^ *Raw \{", re.MULTILINE)
 BY_ANY_RUN = re.compile(r'table "[^"]*": (ModuleCode|ModuleCall|Duplicate|ScopeMissing)( .*)?')
@@ -88,16 +86,9 @@ class Namespace(paths.Tree):
             self.node(path).kind = kind
 
     def start(self, scope, name):
-        """Above the root stands the root itself."""
-        form = NAME.fullmatch(name)
-        if not form:
-            raise ValueError(f"{name[:MOST_SHOWN]!r} is no name")
-        prefix, text = form.groups()
-        segments = text.split(".") if text else []
-        node = self.root if prefix == "\\" else scope
-        for _ in range(prefix.count("^")):
-            node = node.above or node
-        return node, segments, prefix == "" and len(segments) == 1
+        """Names are texts. Above the root stands the root itself."""
+        node, name = super().start(scope, paths.Name.of(name))
+        return node or self.root, name
 
     def add(self, row):
         """The node of a row of a listing."""

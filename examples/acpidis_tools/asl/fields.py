@@ -5,8 +5,8 @@ import re
 
 from acpidis_tools import standard
 from acpidis_tools.asl import language
-from acpidis_tools.asl.terms import NAME, picked, plain
-from acpidis_tools.listing import SEGMENT
+from acpidis_tools.asl.terms import picked, plain
+from acpidis_tools.listing import NAME, SEGMENT
 
 UNIT = re.compile(rf"({SEGMENT}|Reserved), (\d{{1,9}})")
 ACCESS = re.compile(r"(?:Extended)?Access \((0x[0-9A-F]{2}(?:, 0x[0-9A-F]{2}){1,2})\)")

@@ -6,10 +6,9 @@ from collections import namedtuple
 
 from acpidis_tools import aml, standard
 from acpidis_tools.asl import language
-from acpidis_tools.listing import SEGMENT, WORD
+from acpidis_tools.listing import NAME, WORD
 from acpidis_tools.terms import terms_in
 
-NAME = re.compile(rf"\\|\^+|(?:\\|\^*){SEGMENT}(?:\.{SEGMENT})*")
 NUMBER = re.compile(r"0x(?:[0-9A-F]{2}){1,8}")
 ESCAPE = re.compile(r"\\x([0-9A-F]{2})")
 # What ASL has as a part of other terms alone.
@@ -110,7 +109,7 @@ def spelled(term):
 
 
 class Turner:
-    """Turns a line, term by term."""
+    """Turns a line, term by term, and keeps its names."""
 
     def __init__(self, revision, tell):
         self.revision, self.tell, self.names = revision, tell, []
@@ -166,32 +165,27 @@ class Turner:
         token = term.word
         if (part.word, part.mark) == ("VarPackage", "(") and term.number in range(256):
             self.tell("a VarPackage of a constant size")
-        if token[0] == '"':
-            self.check(token, part)
-            return quoted(token[1:-1], self.tell)
-        if token[0] == "0" and NUMBER.fullmatch(token):
-            self.check(token, part)
-            return self.number(token, part)
-        if token in aml.PARTS:
-            self.check(token, part)
-            return language.RENAMED.get(token, token)
-        if not NAME.fullmatch(token):
-            raise ValueError("none of a listing")
-        if (part.word, part.place) == ("Name", 1):
-            self.tell("a name as the value of a Name")
-        is_call = bool(term.arguments)
-        is_value = is_call or (part.mark, part.kind) == ("(", "T")
-        self.names.append(Named(token, len(term.arguments), is_value, is_call))
-        return plain(token, self.tell)
-
-    def check(self, token, part):
-        """Whether ASL takes this, which is no name, as a part of the word in front of the bracket."""
+        if NAME.fullmatch(token):
+            if (part.word, part.place) == ("Name", 1):
+                self.tell("a name as the value of a Name")
+            is_call = bool(term.arguments)
+            is_value = is_call or (part.mark, part.kind) == ("(", "T")
+            self.names.append(Named(token, len(term.arguments), is_value, is_call))
+            return plain(token, self.tell)
+        # Whether ASL takes it as a part of the word in front of the bracket
         if part.mark and (token == "Load" or token == "Debug" and part.kind in "TD"):
             self.tell(f"{token} as a value")
         elif token in language.PICKY.get((part.word, part.place), ()):
             self.tell(f"{part.word} of {token}")
         elif part.word == "DerefOf" and not (token in language.REFERENCES or STORAGE.fullmatch(token)):
             self.tell("DerefOf of what is no reference")
+        if token[0] == '"':
+            return quoted(token[1:-1], self.tell)
+        if NUMBER.fullmatch(token):
+            return self.number(token, part)
+        if token not in aml.PARTS:
+            raise ValueError("none of a listing")
+        return language.RENAMED.get(token, token)
 
     def number(self, token, part):
         value, width = int(token, 16), len(token) // 2 - 1
@@ -212,16 +206,12 @@ class Turner:
             return standard.SPACES.get(value, token)
         if word == "Match":
             return picked(language.MATCHES, value, "Match by the operator", self.tell)
-        if language.FLAGS.get(word) == place:
-            return self.flags(value)
+        if language.FLAGS.get(word) == place:  # of a field list (20.2.5.2)
+            if value & 0x80:
+                self.tell("bit 7 of a field list's flags")
+            access = picked(standard.ACCESS_TYPES, value & 15, "the access type", self.tell)
+            update = picked(standard.UPDATE_RULES, value >> 5 & 3, "the update rule", self.tell)
+            return f"{access}, {standard.LOCK_RULES[value >> 4 & 1]}, {update}"
         if word == "Mutex" and value > language.MOST_SYNC_LEVEL:
             self.tell(f"a Mutex of the level {value}")
         return token
-
-    def flags(self, value):
-        """The flags of a field list (20.2.5.2)."""
-        if value & 0x80:
-            self.tell("bit 7 of a field list's flags")
-        access = picked(standard.ACCESS_TYPES, value & 15, "the access type", self.tell)
-        update = picked(standard.UPDATE_RULES, value >> 5 & 3, "the update rule", self.tell)
-        return f"{access}, {standard.LOCK_RULES[value >> 4 & 1]}, {update}"
