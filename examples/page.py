@@ -71,7 +71,7 @@ def sheet_of(asked: argparse.Namespace) -> Sheet:
         sheet.faults = of_file(asked.errors, lambda text: read_errors(text, sheet.listing), MOST_BYTES, what)
     if asked.compare:
         other = of_file(asked.compare, sheet_in, most)
-        sheet.comparison = compare(sheet.names, sheet.listing, other.names, other.listing, name_of(asked.compare))
+        sheet.comparison = compare(sheet.decoder, other.decoder, name_of(asked.compare))
     return sheet
 
 

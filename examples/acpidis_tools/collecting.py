@@ -151,7 +151,7 @@ class Collector:
         lines = [(line, block.file[1:-1]) for block in self.listing.blocks for line in block.lines]
         files = {line.number: file for line, file in lines if line.declared is not None}
         returns = {line.number: line for line, _ in lines if line.term == "Return" and line.method}
-        texts = {path: "\n".join(text_of(said)).encode() for path, said in texts_of(self.names, self.listing).items()}
+        texts = {path: "\n".join(text_of(said)).encode() for path, said in texts_of(self.decoder).items()}
         sums = {path: hashlib.sha256(text).hexdigest()[:16] for path, text in texts.items()}
         targets = []
         for row in self.listing.rows:

@@ -29,8 +29,9 @@ FIELD_BITS = {
 }
 
 
-# A unit of a field list: the line of the list, its first bit and its width, and how it is accessed
-Unit = namedtuple("Unit", "head bit width access")
+# A unit of a field list: the line of the list, its first bit and its width, how it is accessed, and the line before it that
+# says so, if one does
+Unit = namedtuple("Unit", "head bit width access behind")
 
 
 class Template(namedtuple("Template", "descriptors patches")):
@@ -50,7 +51,7 @@ class Decoder:
     numbers of their lines, `returned` has the last segments of the methods that return a name, by its anchor."""
 
     def __init__(self, listing: Listing, names: Names):
-        self.names = names
+        self.listing, self.names = listing, names
         self.patches: dict[str, list[tuple[int, int, str]]] = defaultdict(list)
         self.units: dict[int, Unit] = {}
         self.returned: dict[str, str] = {}
@@ -59,20 +60,20 @@ class Decoder:
             self.read(block.lines)
 
     def read(self, lines: list[Line]) -> None:
-        head, access, bit = None, "", 0
+        access, bit, behind = "", 0, None
         for line in lines:
-            if head and line.number >= head.end:
-                head = None
             if line.term in FIELD_LISTS:
-                head, access, bit = line, flag_words(self.terms(line))[0], 0
-            elif head:
+                access, bit, behind = flag_words(self.terms(line))[0], 0, None
+            elif line.term and line.above and line.above.term in FIELD_LISTS:
+                if line.term in ("Access", "ExtendedAccess", "Connection"):
+                    behind = line
                 # The access that the units behind an Access line have
                 kind = self.argument(line, 0) if line.term in ("Access", "ExtendedAccess") else None
                 access = named(ACCESS_TYPES, (kind.number or 0) & 0x0F) if kind else access
                 form = UNIT.fullmatch(line.pieces[-1])
                 width = int(form[1]) if form else 0
                 if line.declared == FIRST_WORD:
-                    self.units[line.number] = Unit(head, bit, width, access)
+                    self.units[line.number] = Unit(line.above, bit, width, access, behind)
                 bit += width
             elif line.term.startswith("Create"):
                 self.add_patch(line)
