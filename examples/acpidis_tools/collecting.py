@@ -222,8 +222,10 @@ class Collector:
         anchor, name, path = self.declared(line)
         address = self.pci_address(line.scope) if values[0] == PCI_CONFIG else (None, None)
         self.regions.setdefault(anchor, self.add("region", name, self.method, path, *values, *address, self.file, line.number))
-        if line.term != "DataRegion":
-            self.add_named(line, arguments[2:4])
+        for column, term in zip(REGION_NUMBERS, arguments[2:4] if line.term != "DataRegion" else ()):
+            meaning = self.decoder.meanings(line).get(term.place) if term and not term.arguments else None
+            if self.row_of(meaning) and not meaning.others:
+                self.named.append((self.rows["region"][-1], column, self.row_of(meaning)))
 
     def pci_address(self, scope: Path) -> tuple[int | None, int | None]:
         """The device and the function by the constant _ADR of the nearest device around (6.1.1)."""
@@ -232,15 +234,6 @@ class Collector:
         value = self.rows["name"][name - 1][CONSTANT[-1]] if name else None
         number = Term(value, 0).number if value else None
         return (None, None) if number is None or number >> 32 else (number >> 16, number & 0xFFFF)
-
-    def add_named(self, line: Line, terms: list[Term | None]) -> None:
-        """Keeps which numbers of a region are values of names."""
-        meanings = self.decoder.meanings(line)
-        for column, term in zip(REGION_NUMBERS, terms):
-            meaning = meanings.get(term.place) if term and not term.arguments else None
-            name = self.ids.get(meaning.path) if meaning and meaning.path is not None and not meaning.others else None
-            if name and not meaning.anchor.isdigit():
-                self.named.append((self.rows["region"][-1], column, name))
 
     def add_constants(self) -> None:
         """The numbers of regions that are Names with a constant which nothing changes, as far as all bodies tell."""
@@ -258,8 +251,12 @@ class Collector:
         place = line.declared % len(line.words) if line.declared is not None else 1
         meaning = self.decoder.meanings(line).get(place)
         path = meaning.path if meaning and meaning.path is not None else ()
-        is_local = meaning is None or meaning.sort is Sort.LOCAL
-        return meaning.anchor if meaning else "", None if is_local else self.ids.get(path), path_text(path)
+        return meaning.anchor if meaning else "", self.row_of(meaning), path_text(path)
+
+    def row_of(self, meaning: Meaning | None) -> int | None:
+        """The row of the path that a name means, unless a body declares it."""
+        is_path = meaning and meaning.path is not None and not meaning.anchor.isdigit()
+        return self.ids.get(meaning.path) if is_path else None
 
     # ---- the lines
 
@@ -278,13 +275,10 @@ class Collector:
         scope = path_text(line.scope)
         for term, place in places(self.decoder.terms(line)):
             meaning = meanings.get(term.place)
-            if meaning is None or meaning.sort not in USING:
-                continue
-            for number, meant in enumerate((meaning, *meaning.others)):
-                is_local = meant.anchor.isdigit()
-                name = None if is_local or meant.path is None else self.ids.get(meant.path)
-                how = self.how(term, place, meant, is_local)
-                self.add("use", self.method, scope, term.word, name, int(is_local), number, how, self.file, line.number)
+            for number, meant in enumerate((meaning, *meaning.others) if meaning and meaning.sort in USING else ()):
+                is_local, how = meant.anchor.isdigit(), self.how(term, place, meant)
+                values = self.row_of(meant), int(is_local), number, how, self.file, line.number
+                self.add("use", self.method, scope, term.word, *values)
 
     def add_statements(self, line: Line) -> None:
         if STATEMENTS.keys().isdisjoint(line.words):
@@ -293,15 +287,13 @@ class Collector:
         for term, _ in places(self.decoder.terms(line)):
             if term.word in STATEMENTS:
                 named, counted = (term.argument(at) if at is not None else None for at in STATEMENTS[term.word])
-                meaning = meanings.get(named.place) if named else None
-                is_known = meaning and meaning.path is not None and not meaning.anchor.isdigit()
-                name, number = self.ids.get(meaning.path) if is_known else None, small(counted.number) if counted else None
-                text = line.text.strip(" ")[:LONGEST_STATEMENT]
-                self.add("statement", self.method, path_text(line.scope), term.word, name, number, text, self.file, line.number)
+                name = self.row_of(meanings.get(named.place)) if named else None
+                values = name, small(counted.number) if counted else None, line.bare[:LONGEST_STATEMENT], self.file, line.number
+                self.add("statement", self.method, path_text(line.scope), term.word, *values)
 
-    def how(self, term: Term, place: Place, meant: Meaning, is_local: bool) -> str:
+    def how(self, term: Term, place: Place, meant: Meaning) -> str:
         """What becomes of what a name means: it is called, read, written, passed on, or named."""
-        is_method = not is_local and self.kinds.get(meant.path) == "Method" or bool(term.arguments)
+        is_method = not meant.anchor.isdigit() and self.kinds.get(meant.path) == "Method" or bool(term.arguments)
         if place.kind in "TR":
             return "called" if is_method else "read"
         if place.kind == "A" and place.within and place.within.word != "Connection":
@@ -373,9 +365,8 @@ class Collector:
 
     def add_identifiers(self, line: Line) -> None:
         for text in self.decoder.identifiers(line):
-            device = self.device_of(line)
-            name, number = hardware_name(line), eisa_number(text)
-            self.add("identifier", device, name, text, number, DEVICE_NAMES.get(text), self.file, line.number)
+            values = hardware_name(line), text, eisa_number(text), DEVICE_NAMES.get(text), self.file, line.number
+            self.add("identifier", self.device_of(line), *values)
 
 
 def wires_of(one: Descriptor) -> tuple[int | None, str | None, str | None]:
