@@ -14,15 +14,17 @@ already. ACPIDIS names another program. Status 1 is a folder that is refused, 2 
 fault.
 """
 
-import collections
-import concurrent.futures
 import itertools
 import re
 import sys
 import tempfile
+from collections import defaultdict
+from concurrent.futures import ThreadPoolExecutor
+from functools import partial
 
-from acpidis_tools import aml, command, listing, running
+from acpidis_tools import command, listing, running
 from acpidis_tools.errors import name_in
+from acpidis_tools.listing import path_of, path_text
 
 COUNTS = range(8)
 MOST_NAMES = 1000
@@ -39,9 +41,8 @@ def name_of(body):
     name = name_in(body.raw[at:])
     if name is None:
         raise running.Unusable(f"no name stands at {at} of a body that wants one: is this another version of acpidis?")
-    space = aml.Space(0)
-    place = space.given_place(space.node(body.node.path()), name)
-    return place and place.path()
+    place = name.segments if name.is_searched else name.placed(path_of(body.node.path()))
+    return None if place is None else path_text(place)
 
 
 class Trial:
@@ -49,14 +50,13 @@ class Trial:
     the set is refused for the name."""
 
     def __init__(self, run, bodies):
-        self.refused, self.faults, values = run.refused, [], []
-        if not run.refused:
-            now = [run.listing.methods[body.number] for body in bodies]
-            self.faults = [body.fault for body in now if body.fault]
-            read = [body.lines for body in now if not body.fault] if bodies else [None]
-            values = list(map(run.listing.lone_values, read))
-        # What is read, without and with values that stand alone, and how many these are
-        self.read, self.loose, self.values = values.count(0), len(values) - values.count(0), sum(values)
+        now = [] if run.refused else [run.listing.methods[body.number] for body in bodies]
+        self.refused, self.faults = run.refused, [body.fault for body in now if body.fault]
+        read = [body.lines for body in now if not body.fault] if bodies or run.refused else [None]
+        values = [run.listing.lone_values(lines) for lines in read]
+        # What is read, without and with values that stand alone
+        self.read, self.loose = values.count(0), len(values) - values.count(0)
+        self.rank = bool(run.refused), len(self.faults), sum(values)
 
 
 class Search:
@@ -85,18 +85,24 @@ class Search:
             file.flush()
             return running.run([self.program, *self.options, *more, "--externals", file.name, "--", self.folder])
 
-    def trials(self, names, more=()):
-        """What comes of each count of some names, with the others as they are: eight trials for each name."""
-        with concurrent.futures.ThreadPoolExecutor(4) as pool:
-            of_counts = list(pool.map(lambda count: self.outcomes(names, count, more), COUNTS))
-        return {name: [found[name] for found in of_counts] for name in names}
+    def fit(self, names, more=()):
+        """Keeps of each name the count that fits best, beside the others as they are. Answers the trials of its counts."""
+        all_trials = {}
+        for group in self.apart(names):
+            with ThreadPoolExecutor(4) as pool:
+                of_counts = list(pool.map(partial(self.outcomes, group, more), COUNTS))
+            for name in group:
+                trials, before = [found[name] for found in of_counts], self.counts.get(name, 0)
+                self.counts[name] = min(COUNTS, key=lambda count: (*trials[count].rank, count != before))
+                all_trials[name] = trials
+        return all_trials
 
-    def outcomes(self, names, count, more):
+    def outcomes(self, names, more, count):
         """What comes of each name where all of them have this count. A set that is refused for one is tried in halves."""
         run = self.run({**self.counts, **dict.fromkeys(names, count)}, more)
         if run.refused and len(names) > 1:
             half = len(names) // 2
-            return {**self.outcomes(names[:half], count, more), **self.outcomes(names[half:], count, more)}
+            return {**self.outcomes(names[:half], more, count), **self.outcomes(names[half:], more, count)}
         return {name: Trial(run, self.waiting[name]) for name in names}
 
     def go(self):
@@ -117,15 +123,13 @@ class Search:
                 self.outside = {segment for line in outside for segment in SEGMENT.findall(line.bare)}
             self.waiting.update(found)
             self.rounds.append(sorted(found, key=lambda name: -len(found[name])))
-            for names in self.apart(self.rounds[-1]):
-                # What stands behind may be unknown still, and is taken to have no arguments meanwhile.
-                for name, trials in self.trials(names, ["--unknown-zero"]).items():
-                    self.choose(name, trials)
+            # What stands behind may be unknown still, and is taken to have no arguments meanwhile.
+            self.fit(self.rounds[-1], ["--unknown-zero"])
 
     def apart(self, names):
         """The names in groups, none of which has two that a body has both of."""
         # The numbers of the waiting bodies by each segment that may stand in them, at whatever byte
-        bodies_with = collections.defaultdict(set)
+        bodies_with = defaultdict(set)
         for body in itertools.chain.from_iterable(self.waiting.values()):
             for segment in ANYWHERE.findall(body.raw):
                 bodies_with[segment].add(body.number)
@@ -137,39 +141,28 @@ class Search:
             if not self.waiting[name] or segment in self.outside:
                 alone.append([name])  # its count may change how the tables themselves are read
                 continue
-            group = next((it for it in groups if it[1].isdisjoint(bodies)), None)
-            if group is None:
-                group = [], set()
-                groups.append(group)
-            group[0].append(name)
-            group[1].update(bodies)
+            fitting = next((it for it in groups if it[1].isdisjoint(bodies)), None)
+            if fitting:
+                fitting[0].append(name)
+                fitting[1].update(bodies)
+            else:
+                groups.append(([name], bodies))
         return alone + [names for names, _ in groups]
 
     def found_in(self, bodies):
-        found = collections.defaultdict(list)
+        found = defaultdict(list)
         for body in bodies:
             name = name_of(body) if body.fault.word == "UnknownName" else None
             if name and name not in self.counts:
                 found[name].append(body)
         return found
 
-    def choose(self, name, trials):
-        """Keeps the count that fits best, and says whether it is another one."""
-        before = self.counts.get(name, 0)
-        rank = lambda it: (bool(it.refused), len(it.faults), it.values)
-        self.counts[name] = min(COUNTS, key=lambda count: (*rank(trials[count]), count != before))
-        return self.counts[name] != before
-
     def settle(self):
         """The trials of each name beside the best counts of the others."""
-        groups = self.apart(list(self.counts))
         for _ in range(MOST_PASSES):
-            trials, changed = {}, False
-            for names in groups:
-                found = self.trials(names)
-                trials.update(found)
-                changed |= any([self.choose(name, found[name]) for name in names])
-            if not changed:
+            before = self.counts.copy()
+            trials = self.fit(list(before))
+            if self.counts == before:
                 break
         return trials
 

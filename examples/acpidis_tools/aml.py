@@ -17,6 +17,7 @@ HEADER, MOST_LEVELS = 36, 512
 sys.setrecursionlimit(20_000)
 # A segment, or as much of one as stands there
 SEGMENT = re.compile(rb"(?:[A-Z_][A-Z0-9_]{0,3})?")
+NAME_LEADS = set(rb"ABCDEFGHIJKLMNOPQRSTUVWXYZ_\^./")
 # What is read behind the parts of a term, by the kind of its tail
 TAILS = {"t": "block", "e": "elements", "f": "units", "b": "body", "y": "rest"}
 STEPS_PER_BYTE = 4
@@ -185,12 +186,12 @@ class Reader:
             at += 1
         ups, lead, count = at - start, self.byte(at, end), 1
         if lead == 0x00:
-            return Name(root, ups, []), at + 1
+            return Name(root, ups, ()), at + 1
         if lead == 0x2E:
             count, at = 2, at + 1
         elif lead == 0x2F:
             count, at = self.byte(at + 1, end), at + 2
-        segments = [self.segment(place, end) for place in range(at, at + 4 * count, 4)]
+        segments = tuple(self.segment(place, end) for place in range(at, at + 4 * count, 4))
         return Name(root, ups, segments), at + 4 * count
 
     def segment(self, at, end):
@@ -213,7 +214,7 @@ class Reader:
         lead = self.byte(at, end)
         if level > MOST_LEVELS:
             raise Stopped(at)
-        if is_name_lead(lead):
+        if lead in NAME_LEADS:
             return self.named(at, end, kind, level)
         if kind == "S" and lead == 0x00:
             return Term(at, ""), at + 1
@@ -359,10 +360,6 @@ class Reader:
 def code_of(dump):
     """The AML of a dump: what stands behind its header, up to its length."""
     return dump[HEADER : int.from_bytes(dump[4:8], "little")]
-
-
-def is_name_lead(byte):
-    return 0x41 <= byte <= 0x5A or byte in (0x5F, 0x5C, 0x5E, 0x2E, 0x2F)
 
 
 # ---- text
