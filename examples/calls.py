@@ -77,7 +77,7 @@ def listing_of(asked):
 
 
 def main():
-    run = listing_of(command.parse(command.folder_parser(__doc__)))
+    run = listing_of(command.parse(command.parser(__doc__, "FOLDER", usage="%(prog)s [OPTION..] FOLDER")))
     found = list(calls(run.listing))
     for scope, name, count, operator, line in found:
         print(f"{scope}: {name} takes {count}, in {operator}: {line[:SHOWN]}")

@@ -228,7 +228,7 @@ def show(search, all_trials, must_be_one):
 
 
 def main():
-    words = command.folder_parser(__doc__, "[--try] [--externals FILE] ")
+    words = command.parser(__doc__, "FOLDER", usage="%(prog)s [--try] [--externals FILE] [OPTION..] FOLDER")
     words.add_argument("--try", action="store_true", dest="must_be_one", help="lines only where just one count reads")
     words.add_argument("--externals", metavar="FILE", help="counts that are known already")
     # With --unknown-zero no body waits for a name.

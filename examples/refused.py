@@ -330,7 +330,7 @@ def say(asked):
 def main():
     sys.stdout.reconfigure(errors="backslashreplace")
     sys.stderr.reconfigure(errors="backslashreplace")
-    said, status = say(command.parse(command.folder_parser(__doc__)))
+    said, status = say(command.parse(command.parser(__doc__, "FOLDER", usage="%(prog)s [OPTION..] FOLDER")))
     print("\n".join(said))
     sys.exit(status)
 

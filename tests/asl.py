@@ -294,7 +294,7 @@ def check_splice(checks):
     for more, file in ((["-o", old], old), (["--initrd", "splice/../splice/old"], "splice/../splice/old"), (["-o", "-"], "-")):
         ran = checks.run(SPLICE, *more, old, new, "NAM1")
         what = "no name of a file" if file == "-" else "DUMP"
-        said = f"splice.py: error: {file!r} is {what}: name another"
+        said = f"acpidis-splice: {file!r} is {what}: name another"
         checks.is_same(f"splice {more}", (ran.returncode, ran.stderr.splitlines()[-1]), (2, said))
     checks.is_same("DUMP stays", (checks.room / old).read_bytes(), files["old"])
     paths = "\\DEV0.MET0", "dev0.nam0", "\\NAM1"

@@ -22,22 +22,24 @@ SEGMENT = re.compile(r"[A-Z_][A-Z0-9_]{0,3}")
 PACKED = (b"\x1f\x8b", b"BZh", b"\xfd7zXZ", b"PK\3\4", b"\x28\xb5\x2f\xfd")
 
 
+class Parser(argparse.ArgumentParser):
+    """A command line, of whose faults is told as of all others."""
+
+    def error(self, message):
+        self.print_usage(sys.stderr)
+        tell(message)
+        sys.exit(AT_FAULT)
+
+
 def parser(about, *names, **more):
     """The command line of a script, with words of these names, whose help is what its first lines say. Where it is
     installed it has another name there."""
-    made = argparse.ArgumentParser(description=about, formatter_class=argparse.RawDescriptionHelpFormatter, **more)
+    made = Parser(description=about, formatter_class=argparse.RawDescriptionHelpFormatter, **more)
     if made.prog.startswith("acpidis-"):
         made.description = re.sub(r"(?:python3 )?examples/(\w+)\.py", r"acpidis-\1", about)
     for name in names:
         made.add_argument(name.lower(), metavar=name)
     return made
-
-
-def folder_parser(about, own=""):
-    """That of a script that reads a folder, with options of its own."""
-    words = parser(about, "FOLDER", usage=f"%(prog)s {own}[OPTION..] FOLDER")
-    words.set_defaults(options={})
-    return words
 
 
 def path_of(word):
@@ -69,8 +71,8 @@ class Keep(argparse.Action):
 def parse(words, but=()):
     """What the command line asks for, with the options of acpidis in `options`, but for those that the script has
     itself or can't do with. Only where an option isn't the script's own is acpidis asked which it has."""
-    _, more = words.parse_known_args()
-    if any(word.startswith("-") for word in more):
+    words.set_defaults(options={})
+    if any(word.startswith("-") for word in words.parse_known_args()[1]):
         for option, value in known().items():
             if option not in (*NO_LISTING, *but):
                 takes = {"metavar": value} if value else {"nargs": 0}
