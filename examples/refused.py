@@ -20,6 +20,7 @@ import tempfile
 
 from acpidis_tools import aml, command, running
 from acpidis_tools.listing import file_name
+from acpidis_tools.standard import counted
 
 HEADER, MOST_BYTES, SHOWN_BYTES, MOST_SHOWN = aml.HEADER, 16_777_216, 16, 5
 BLOCKS = (b"DSDT", b"SSDT")
@@ -137,10 +138,6 @@ def bytes_at(code, at):
     return shown + (" .." if len(code) > at + SHOWN_BYTES else "") if shown else "the table's end"
 
 
-def counted(count):
-    return f"{count} argument" if count == 1 else f"{count} arguments"
-
-
 def told(found, node):
     """Where a path is declared, in words."""
     places = [f"{word} at {found.place(table, at)}" for table, at, word in node.places]
@@ -185,10 +182,10 @@ def say_counts(found, reader, uses):
         known = found.space.count(use.scope, use.name)
         if known and known[0] and use.read == 0:
             with_them = ": `--any-run` reads calls outside the methods" if found.wants_any_run else ""
-            yield f"  {use.name} takes {counted(known[0])} ({told(found, known[1])}), and was read without them{with_them}"
+            yield f"  {use.name} takes {counted(known[0], 'argument')} ({told(found, known[1])}), and was read without them{with_them}"
         elif found.any_run and not known and use.name.segments and use.name.segments[-1] in ahead:
             at, count = ahead[use.name.segments[-1]]
-            yield f"  nothing tells of {use.name} before it; a Method of {counted(count)} may stand at offset {at}"
+            yield f"  nothing tells of {use.name} before it; a Method of {counted(count, 'argument')} may stand at offset {at}"
             place = found.space.given_place(use.scope, use.name)
             path = path_of(place) if place else "?"
             yield f"  a line `{path} {count}` in the file of --externals would tell it"
@@ -242,8 +239,8 @@ def say_calls(found, refusal):
             return
         term = f", in {aml.text(use.around)}" if use.around else ""
         yield f"{use.name} at {found.place(reader.table, use.term.at)}, in the scope {path_of(use.scope)}{term}"
-        takes = f"it takes {counted(known[0])}: {told(found, known[1])}" if known else "nothing tells how many it takes"
-        yield f"  read with {counted(use.read)}; {takes}"
+        takes = f"it takes {counted(known[0], 'argument')}: {told(found, known[1])}" if known else "nothing tells how many it takes"
+        yield f"  read with {counted(use.read, 'argument')}; {takes}"
 
 
 SAYERS = {

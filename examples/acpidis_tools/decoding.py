@@ -76,7 +76,10 @@ class Decoder:
                     self.units[line.number] = Unit(line.above, bit, width, access, behind)
                 bit += width
             elif line.term.startswith("Create"):
-                self.add_patch(line)
+                source, (first, bits) = self.argument(line, 0), self.bits_of(line)
+                meaning = self.meanings(line).get(source.place) if source else None
+                if meaning and meaning.anchor and first is not None and bits is not None:
+                    self.patches[meaning.anchor].append((first, first + bits, line.words[-1]))
             elif line.term == "Return" and line.method and line.method[-1] in objects.MAKERS and len(line.words) == 2:
                 meaning = self.meanings(line).get(1)
                 if meaning and meaning.anchor:
@@ -95,13 +98,6 @@ class Decoder:
     def meanings(self, line: Line) -> dict[int, Meaning]:
         places_of_names = (place for place, word in enumerate(line.words) if is_name(word))
         return dict(zip(places_of_names, self.names.meanings[line.number]))
-
-    def add_patch(self, line: Line) -> None:
-        source = self.argument(line, 0)
-        meaning = self.meanings(line).get(source.place) if source else None
-        first, bits = self.bits_of(line)
-        if meaning and meaning.anchor and first is not None and bits is not None:
-            self.patches[meaning.anchor].append((first, first + bits, line.words[-1]))
 
     def bits_of(self, line: Line) -> tuple[int | None, int | None]:
         """The first bit and the width of what a Create term makes, each where it is constant."""

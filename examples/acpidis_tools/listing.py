@@ -85,6 +85,15 @@ class Line:
         return self.pieces[1] if len(self.pieces) > 1 else ""
 
     @property
+    def heads(self) -> list[Line]:
+        """The heads of the blocks around it, the outer first."""
+        heads, line = [], self.above
+        while line:
+            heads.append(line)
+            line = line.above
+        return heads[::-1]
+
+    @property
     def bare(self) -> str:
         return "".join(self.pieces)
 

@@ -41,8 +41,8 @@ def is_name(word: str) -> bool:
     return word[0] not in '"0' and word == word.upper()
 
 
-# A block that is open: the line that ends it, where the terms inside it stand, and whether these are sure to
-Open = namedtuple("Open", "end scope method is_field_list is_sure")
+# Where the terms inside a block stand, and whether these are sure to
+Inside = namedtuple("Inside", "scope method is_sure")
 
 
 class Names:
@@ -113,34 +113,31 @@ class Names:
 
     def load(self, lines: list[Line]) -> None:
         """Says of each line where it stands, and what it declares."""
-        opened = [Open(lines[0].end, ROOT, None, False, True)]
+        opened = {lines[0]: Inside(ROOT, None, True)}
         for line in lines[1:]:
-            while line.number > opened[-1].end:
-                opened.pop()
-            inner = opened[-1]
-            line.scope, line.method = inner.scope, inner.method
+            line.scope, line.method, is_sure = opened[line.above]
             if not line.term:
                 continue
-            line.declared = FIRST_WORD if inner.is_field_list and is_name(line.term) else DECLARED.get(line.term)
-            within, is_sure = (inner.scope, True) if line.method else self.declare(line, inner)
+            is_unit = line.above.term in FIELD_LISTS and is_name(line.term)
+            line.declared = FIRST_WORD if is_unit else DECLARED.get(line.term)
+            within, is_sure = (line.scope, True) if line.method else self.declare(line, is_sure)
             if line.end:
-                method = within if line.term == "Method" else line.method
-                opened.append(Open(line.end, within, method, line.term in FIELD_LISTS, is_sure))
+                opened[line] = Inside(within, within if line.term == "Method" else line.method, is_sure)
 
-    def declare(self, line: Line, inner: Open) -> tuple[Path, bool]:
+    def declare(self, line: Line, is_sure: bool) -> tuple[Path, bool]:
         """Declares what a line outside the bodies declares, and says where the terms inside it stand, and whether these
         are sure to."""
         if line.declared is not None:
-            return self.declare_path(line, inner.is_sure)
+            return self.declare_path(line, is_sure)
         if line.term == "External":
             self.externals.setdefault(self.place(line, word_at(line, 1)), line)
         elif line.term == "Scope":
             path = self.led[line.number] = self.lead(line, line.words[1] if len(line.words) > 1 else "")
-            return path, inner.is_sure and self.is_sure(path) and self.is_scope(path)
-        elif not inner.is_field_list and line.term not in FIELD_LISTS:
+            return path, is_sure and self.is_sure(path) and self.is_scope(path)
+        elif FIELD_LISTS.isdisjoint((line.above.term, line.term)):
             for word in filter(is_name, line.words):
                 self.then[line.number, word] = self.find(line.scope, Name.of(word))
-        return line.scope, inner.is_sure and line.term not in BLOCKS
+        return line.scope, is_sure and line.term not in BLOCKS
 
     def declare_path(self, line: Line, is_sure: bool) -> tuple[Path, bool]:
         path = self.place(line, word_at(line, line.declared))
@@ -191,7 +188,11 @@ class Names:
                 units = {}
             if line.method and line.term in FIELD_LISTS:
                 end_of_units = line.end
-            self.meanings[line.number] = meanings = self.meanings_of(line, own)
+            declared = -1 if line.declared is None else line.declared % len(line.words)
+            self.meanings[line.number] = meanings = [
+                self.declaration(line, word) if place == declared else self.meaning(line, word, own)
+                for place, word in enumerate(line.words) if is_name(word)
+            ]
             for word, meaning in zip(filter(is_name, line.words), meanings):
                 if meaning.sort is Sort.LOCAL and meaning.path is not None:
                     (units if line.declared == FIRST_WORD else own)[meaning.path] = line.number
@@ -200,14 +201,6 @@ class Names:
                         add_use(self.uses[meant.anchor], line)
                 elif meaning.sort is Sort.NOTHING:
                     add_use(self.strays[word], line)
-
-    def meanings_of(self, line: Line, own: dict[Path, int]) -> list[Meaning]:
-        words = line.words
-        declared = -1 if line.declared is None else line.declared % len(words)
-        return [
-            self.declaration(line, word) if place == declared else self.meaning(line, word, own)
-            for place, word in enumerate(words) if is_name(word)
-        ]
 
     def declaration(self, line: Line, word: str) -> Meaning:
         path = Name.of(word).placed(line.scope)

@@ -37,6 +37,10 @@ EISA_NUMBER = re.compile(r"0x[0-9A-F]{4}(?:[0-9A-F]{4})?")
 UUID_LENGTH = 16
 
 
+def counted(count: int, word: str) -> str:
+    return f"{count:,} {word}{'' if count == 1 else 's'}"
+
+
 def space_name(number: int) -> str:
     return SPACES.get(number) or (f"0x{number:02X}" if number < FIRST_OF_VENDORS else f"vendor's 0x{number:02X}")
 

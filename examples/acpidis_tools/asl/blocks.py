@@ -5,7 +5,7 @@ from collections import namedtuple
 
 from acpidis_tools import command, listing, running
 from acpidis_tools.asl import fields, language, terms
-from acpidis_tools.asl.names import Externals, Names, Scope, Use
+from acpidis_tools.asl.names import Names, Scope, Use, externals
 
 TABLE = re.compile(r'Table ("[^"]*") ("[^"]*") Length \d+ Revision (\d{1,3}) Oem ("[^"]*") ("[^"]*") ([0-9A-F]{8}) Creator .*')
 GUARD = "If (Zero) {"
@@ -93,12 +93,12 @@ class Block:
                 is_guarded = not is_guarded
             else:
                 lines.append(line[2 * is_guarded :])
-        return around(self.head, Externals(names, names.uses, names.own | names.externals.keys(), said), lines, rows)
+        return around(self.head, lines, names.space, names.uses, names.own | names.externals.keys(), said, rows)
 
 
-def around(head, externals, lines, rows):
+def around(head, lines, *about):
     """A definition block of these lines with its Externals."""
-    wanted, others = ([f"  {line}" for line in some] for some in (externals.wanted(), externals.others(rows)))
+    wanted, others = ([f"  {line}" for line in some] for some in externals(*about))
     return [head, *wanted, *lines, *([OTHERS, *others] if others else []), "}"]
 
 
@@ -121,7 +121,7 @@ class Found(namedtuple("Found", "block line node has_terms")):
         lines = [line[2 * self.line.depth - 2 :] for line in (head, *lines[1:])]
         above = Use(Scope(names.space.root, None), terms.Named(self.node.above.path()), first)
         uses = [*(use for use in names.uses if first <= use.number < end), above]
-        return around(self.table.head('"SSDT"', self.block.tell), Externals(names, uses, {self.node}, said), lines, rows)
+        return around(self.table.head('"SSDT"', self.block.tell), lines, names.space, uses, {self.node}, said, rows)
 
 
 class Reader:

@@ -101,51 +101,44 @@ class Names:
         return isinstance(running.PREDEFINED.get(node.path()), int)
 
 
-class Externals:
-    """The Externals of a text: `wanted` of what it uses and doesn't declare, which have to stand in front; `others` of all
-    else that the rows of the listing have, so that iasl finds what is typed, and not what isn't there. `own` are the nodes
-    that the text declares itself, `said` what the Externals of the tables say of nodes."""
+def externals(space, uses, own, said, rows):
+    """The Externals of what a text uses and doesn't declare, which have to stand in front; and of all else that the rows of
+    the listing have, so that iasl finds what is typed, and not what isn't there. `own` are the nodes that the text declares
+    itself, `said` what the Externals of the tables say of nodes."""
+    is_other = lambda node: node.above and node not in own and node.path() not in running.PREDEFINED
+    counts = {}
+    for use in uses:
+        node = meant(space, use, said)
+        if node and is_other(node):
+            counts[node] = max(use.named.count, counts.get(node, 0))
+    wanted = [external(space, node, said, counts[node]) for node in sorted(counts, key=running.Node.path)]
+    return wanted, [external(space, node, said, 0) for node in rows if node not in counts and is_other(node)]
 
-    def __init__(self, names, uses, own, said):
-        self.space, self.own, self.said = names.space, own, said
-        self.counts = {}
-        for use in uses:
-            node = self.meant(use.scope, use.named.name)
-            if node and self.is_other(node):
-                self.counts[node] = max(use.named.count, self.counts.get(node, 0))
 
-    def is_other(self, node):
-        return node.above and node not in self.own and node.path() not in running.PREDEFINED
+def meant(space, use, said):
+    """The node that a name means: the nearest that is declared, else that of an External, else the root's; None where that
+    is the body's own."""
+    scope, outside = use.scope, None
+    for node in space.candidates(scope.node, use.named.name):
+        if scope.local and node in scope.local:
+            return None
+        if node.kind is not None:
+            return node
+        if outside is None and node in said:
+            outside = node
+    return outside or space.given_place(scope.node, use.named.name)
 
-    def wanted(self):
-        return [self.external(node, self.counts[node]) for node in sorted(self.counts, key=running.Node.path)]
 
-    def others(self, rows):
-        return [self.external(node, 0) for node in rows if node not in self.counts and self.is_other(node)]
-
-    def meant(self, scope, name):
-        """The node that a name means: the nearest that is declared, else that of an External, else the root's; None where
-        that is the body's own."""
-        outside = None
-        for node in self.space.candidates(scope.node, name):
-            if scope.local and node in scope.local:
-                return None
-            if node.kind is not None:
-                return node
-            if outside is None and node in self.said:
-                outside = node
-        return outside or self.space.given_place(scope.node, name)
-
-    def external(self, node, count):
-        """The External of a node, which is used with so many arguments."""
-        kinds = self.space.kinds_of(node) if node.kind is not None else []
-        said = self.said.get(node)
-        if not kinds and said:
-            return terms.declared(node.path(), said.word, max(said.count, count if said.is_call else 0))
-        kind = kinds[0] if kinds else count or ""
-        if isinstance(kind, int):
-            return terms.declared(node.path(), "MethodObj", max(kind, count))
-        return terms.declared(node.path(), language.OBJECT_OF.get(kind, "UnknownObj"))
+def external(space, node, said, count):
+    """The External of a node, which is used with so many arguments."""
+    kinds = space.kinds_of(node) if node.kind is not None else []
+    if not kinds and node in said:
+        word, most = said[node].word, said[node].count
+        return terms.declared(node.path(), word, max(most, count if said[node].is_call else 0))
+    kind = kinds[0] if kinds else count or ""
+    if isinstance(kind, int):
+        return terms.declared(node.path(), "MethodObj", max(kind, count))
+    return terms.declared(node.path(), language.OBJECT_OF.get(kind, "UnknownObj"))
 
 
 def said_by(blocks):

@@ -10,7 +10,8 @@ from html import escape
 from acpidis_tools.errors import Fault, name_at
 from acpidis_tools.listing import Block, Line, path_text
 from acpidis_tools.names import Meaning, Sort, Uses, is_name
-from acpidis_tools.page.sheet import BETWEEN, Sheet, chunk_html, classed, counted
+from acpidis_tools.page.sheet import BETWEEN, Sheet, chunk_html, classed
+from acpidis_tools.standard import counted
 
 # A browser's tree of elements ends at 512 levels.
 DEEPEST_FOLD = 60
@@ -141,8 +142,6 @@ class BlockWriter:
                     self.uses += line_uses_html(line, self.sheet)
                     continue
                 kept_to = line.end if line.end - line.number < CHUNK else 0
-            elif not is_inside and len(chunk) >= CHUNK:
-                yield from flushed()
             chunk.append(line)
             if len(chunk) >= CHUNK and line.number >= kept_to:
                 yield from flushed()

@@ -16,8 +16,9 @@ from acpidis_tools.errors import raw_lines
 from acpidis_tools.listing import HEADER, TEXT, Dump, Listing, path_text
 from acpidis_tools.names import PREDEFINED
 from acpidis_tools.page.lines import blocks_html, uses_html
-from acpidis_tools.page.sheet import Sheet, classed, counted, link, packed
+from acpidis_tools.page.sheet import Sheet, classed, link, packed
 from acpidis_tools.page.tree import TreeWriter
+from acpidis_tools.standard import counted
 
 HERE = pathlib.Path(__file__).resolve().parent
 # Longer lists of a comparison are folded.

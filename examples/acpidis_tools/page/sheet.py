@@ -89,16 +89,11 @@ class Sheet:
     def parts(self, is_wanted: Callable[[Line], bool]) -> Iterator[tuple[list[Line], list[Line]]]:
         """The lines that are wanted, each with what is in its block, behind the heads of the blocks around."""
         for block in self.listing.blocks:
-            opened: list[Line] = []
             kept_to = 0
             for place, line in enumerate(block.lines):
-                while opened and line.number > opened[-1].end:
-                    opened.pop()
                 if line.number > kept_to and is_wanted(line):
                     kept_to = max(line.number, line.end)
-                    yield opened.copy(), block.lines[place : place + kept_to - line.number + 1]
-                if line.end:
-                    opened.append(line)
+                    yield line.heads, block.lines[place : place + kept_to - line.number + 1]
 
 
 def link(path: Path) -> str:
@@ -108,10 +103,6 @@ def link(path: Path) -> str:
 def classed(*words: str) -> str:
     shown = " ".join(filter(None, words))
     return f' class="{shown}"' if " " in shown else f" class={shown}" if shown else ""
-
-
-def counted(count: int, word: str) -> str:
-    return f"{count:,} {word}{'' if count == 1 else 's'}"
 
 
 def packed(html: str) -> str:
