@@ -20,7 +20,7 @@ import tempfile
 
 from acpidis_tools import aml, command, running
 from acpidis_tools.listing import file_name
-from acpidis_tools.standard import counted
+from acpidis_tools.standard import counted, escaped
 
 HEADER, MOST_BYTES, SHOWN_BYTES, MOST_SHOWN = aml.HEADER, 16_777_216, 16, 5
 BLOCKS = (b"DSDT", b"SSDT")
@@ -56,11 +56,6 @@ class Refusal:
         self.word = form["word"] if form else ""
         self.at = int(form["at"]) if form and form["at"] else None
         self.path = form["path"] if form else None
-
-
-def shown_name(name):
-    """A file's name without what a terminal would act on."""
-    return "".join(chr(byte) if 0x20 <= byte <= 0x7E else f"\\x{byte:02X}" for byte in os.fsencode(name))
 
 
 def file_names(folder):
@@ -126,7 +121,7 @@ class Set:
             aml.Reader(number, self.codes[number], self.space, has_calls=self.any_run).read()
 
     def place(self, table, at):
-        return f"{shown_name(self.order[table])}, offset {at}, byte {at + HEADER} of the file"
+        return f"{escaped(os.fsencode(self.order[table]))}, offset {at}, byte {at + HEADER} of the file"
 
 
 def path_of(node):
@@ -252,7 +247,7 @@ SAYERS = {
 def say_file(asked, refusal):
     """What a file has that is no whole table."""
     data = read_file(asked.folder, refusal.file)
-    yield f"{shown_name(refusal.file)} has {len(data)} bytes{' at least' * (len(data) > MOST_BYTES)}, and begins with"
+    yield f"{escaped(os.fsencode(refusal.file))} has {len(data)} bytes{' at least' * (len(data) > MOST_BYTES)}, and begins with"
     yield f"  {bytes_at(data, 0)}"
     length = int.from_bytes(data[4:8], "little")
     if len(data) >= 8 and not data.startswith(b"RSD PTR "):
@@ -267,9 +262,9 @@ def say_folder(asked):
     names = sorted(os.listdir(folder)) if os.access(folder, os.R_OK | os.X_OK) and os.path.isdir(folder) else []
     for name in names:
         if os.path.islink(os.path.join(folder, name)):
-            yield f"  {shown_name(name)} is a link, which is passed over"
+            yield f"  {escaped(name)} is a link, which is passed over"
         elif "\ufffd" in name.decode(errors="replace"):
-            yield f"  {shown_name(name)} isn't UTF-8"
+            yield f"  {escaped(name)} isn't UTF-8"
 
 
 def words_on(asked, refusal):

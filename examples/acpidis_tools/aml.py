@@ -368,8 +368,7 @@ def code_of(dump):
 def pieces(part):
     """The text of a part, bit by bit."""
     if isinstance(part, bytes):
-        shown = part[:TEXT_LENGTH]
-        yield '"' + "".join(chr(it) if 0x20 <= it <= 0x7E and it not in b'"\\' else f"\\x{it:02X}" for it in shown) + '"'
+        yield f'"{standard.escaped(part[:TEXT_LENGTH], {*range(0x20, 0x7F)} - {0x22, 0x5C})}"'
     elif isinstance(part, Name):
         yield str(part)
     elif isinstance(part, tuple):

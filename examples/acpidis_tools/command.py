@@ -148,27 +148,22 @@ def read(file):
 
 
 @contextlib.contextmanager
-def naming(file):
-    """Gives faults the name of what is written, in place of that of the part that becomes it, or of none."""
+def whole(place):
+    """A part that becomes a file, or a folder, as a whole or not at all. Faults have the name of what is written."""
     try:
-        yield
+        with tempfile.TemporaryDirectory(prefix=".part", dir=os.path.dirname(os.path.abspath(place))) as room:
+            part = pathlib.Path(room, "part")
+            yield part
+            os.replace(part, place)
     except OSError as fault:
-        fault.filename = file
+        fault.filename = place
         raise
 
 
 def write(file, data):
-    """Writes a file as a whole, or not at all."""
-    folder = os.path.dirname(os.path.abspath(file))
-    with naming(file), tempfile.NamedTemporaryFile(dir=folder, prefix=".part", delete=False) as part:
-        try:
-            part.write(data)
-            part.close()
-            os.chmod(part.name, 0o644)
-            os.replace(part.name, file)
-        except BaseException:
-            os.unlink(part.name)
-            raise
+    with whole(file) as part:
+        part.write_bytes(data)
+        part.chmod(0o644)
 
 
 def tell(text):

@@ -6,7 +6,7 @@ from __future__ import annotations
 import uuid
 from collections.abc import Iterator
 
-from acpidis_tools.standard import UUID_LENGTH, WORDS, uuid_text, uuid_with_name
+from acpidis_tools.standard import UUID_LENGTH, WORDS, escaped, uuid_text, uuid_with_name
 from acpidis_tools.terms import Term
 
 ALL_FUNCTIONS, PINS = 0xFFFF, "ABCD"
@@ -135,7 +135,7 @@ def wdg(value: Term) -> Iterator[str]:
     for at in range(0, len(code), WDG_LENGTH):
         guid, (first, second, count, flags) = code[at : at + UUID_LENGTH], code[at + UUID_LENGTH : at + WDG_LENGTH]
         kind = next((word for bit, word in WDG_KINDS.items() if flags & bit), "data")
-        letters = "".join(chr(it) if 0x30 <= it <= 0x5A else f"\\x{it:02X}" for it in (first, second))
+        letters = escaped((first, second), range(0x30, 0x5B))
         name = {"event": f"0x{first:02X}", "method": f"WM{letters}"}.get(kind, f"WQ{letters}")
         more = f", {count} instances" if count != 1 else ""
         yield f"{uuid.UUID(bytes_le=guid)} {kind} {name}{more}" + (", expensive" if flags & 1 else "")

@@ -5,7 +5,7 @@ from __future__ import annotations
 from collections import namedtuple
 from functools import partial
 
-from acpidis_tools.standard import WORDS, space_name
+from acpidis_tools.standard import WORDS, escaped, space_name
 
 # Where the content of a descriptor begins.
 SMALL, LARGE = 1, 3
@@ -53,8 +53,7 @@ class Bytes:
 
     def text(self, at: int) -> str:
         """A text that ends with a NUL, printable."""
-        text = self.data[at:].partition(b"\0")[0]
-        return "".join(chr(byte) if 0x21 <= byte <= 0x7E else f"\\x{byte:02X}" for byte in text)
+        return escaped(self.data[at:].partition(b"\0")[0], range(0x21, 0x7F))
 
     def bits(self, at: int, low: int, count: int = 1) -> int:
         return self.number(at, 1) >> low & (1 << count) - 1

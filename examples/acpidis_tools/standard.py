@@ -37,6 +37,11 @@ EISA_NUMBER = re.compile(r"0x[0-9A-F]{4}(?:[0-9A-F]{4})?")
 UUID_LENGTH = 16
 
 
+def escaped(data: bytes, plain=range(0x20, 0x7F)) -> str:
+    """Bytes as a text, those that aren't plain as \\x and two digits."""
+    return "".join(chr(byte) if byte in plain else f"\\x{byte:02X}" for byte in data)
+
+
 def counted(count: int, word: str) -> str:
     return f"{count:,} {word}{'' if count == 1 else 's'}"
 
