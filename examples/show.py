@@ -35,9 +35,7 @@ def shown(sheet: Sheet, ends: tuple[str, ...]) -> Iterator[str]:
 
 def declared(line: Line, sheet: Sheet) -> str:
     """The path that a line declares, if it does."""
-    if line.declared is None:
-        return ""
-    meaning = sheet.decoder.meanings(line).get(line.declared % len(line.words))
+    meaning = sheet.decoder.declared(line)
     return path_text(meaning.path) if meaning and meaning.path else ""
 
 

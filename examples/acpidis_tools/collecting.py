@@ -248,8 +248,7 @@ class Collector:
 
     def declared(self, line: Line) -> tuple[str, int | None, str]:
         """The anchor of the name that a line declares, its row, and its path as text."""
-        place = line.declared % len(line.words) if line.declared is not None else 1
-        meaning = self.decoder.meanings(line).get(place)
+        meaning = self.decoder.declared(line)
         path = meaning.path if meaning and meaning.path is not None else ()
         return meaning.anchor if meaning else "", self.row_of(meaning), path_text(path)
 

@@ -99,6 +99,10 @@ class Decoder:
         places_of_names = (place for place, word in enumerate(line.words) if is_name(word))
         return dict(zip(places_of_names, self.names.meanings[line.number]))
 
+    def declared(self, line: Line) -> Meaning | None:
+        """The meaning of the name that a line declares."""
+        return None if line.declared is None else self.meanings(line).get(line.declared % len(line.words))
+
     def bits_of(self, line: Line) -> tuple[int | None, int | None]:
         """The first bit and the width of what a Create term makes, each where it is constant."""
         index, count = self.argument(line, 1), self.argument(line, 2)

@@ -37,11 +37,11 @@ class Sheet:
     paths: set[Path] | None = None
 
     @classmethod
-    def of(cls, text: bytes, is_packed: bool = False) -> Sheet:
-        """That of a listing's text."""
+    def of(cls, text: bytes, is_packed: bool | None = None) -> Sheet:
+        """That of a listing's text, which is packed where it is long, if nothing else is said."""
         listing = read_listing(text)
         names = Names(listing)
-        return cls(listing, names, Decoder(listing, names), is_packed=is_packed)
+        return cls(listing, names, Decoder(listing, names), is_packed=len(text) > LONG_TEXT if is_packed is None else is_packed)
 
     def mark(self, path: Path | None) -> str:
         return self.comparison.mark(path) if self.comparison and path is not None else ""
@@ -65,7 +65,7 @@ class Sheet:
         lines = self.lines_at(path) if wanted.startswith("\\") else self.lines_of(wanted)
         if not lines:
             raise NoListing(f"nothing in it is {wanted[:80]}: --only takes a path like \\_SB_.PCI0 or a file like dsdt.dat")
-        self.shown = lines
+        self.shown, self.is_packed = lines, len(lines) > LONG_TEXT // 40
         self.paths = {path for path, line in self.names.lines.items() if line.number in lines}
 
     def lines_of(self, file: str) -> set[int]:
