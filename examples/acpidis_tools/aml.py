@@ -294,16 +294,13 @@ class Reader:
                 self.span(at + 1, width, end)
                 at += 1 + width
             elif lead == 0x02:
-                at = self.link(at + 1, end, level + 1)
+                is_buffer = self.byte(at + 1, end) == 0x11
+                at = (self.term(at + 1, end, "D", level + 1) if is_buffer else self.name(at + 1, end))[1]
             else:
                 name, at = self.name(at, end)
                 units.append(name)
                 at += self.bits(at, end)[1]
         return units
-
-    def link(self, at, end, level):
-        is_buffer = self.byte(at, end) == 0x11
-        return self.term(at, end, "D", level)[1] if is_buffer else self.name(at, end)[1]
 
     # ---- what terms do
 
@@ -367,10 +364,10 @@ def code_of(dump):
 
 def pieces(part):
     """The text of a part, bit by bit."""
-    if isinstance(part, bytes):
-        yield f'"{standard.escaped(part[:TEXT_LENGTH], {*range(0x20, 0x7F)} - {0x22, 0x5C})}"'
-    elif isinstance(part, Name):
+    if isinstance(part, (str, Name)):
         yield str(part)
+    elif isinstance(part, bytes):
+        yield f'"{standard.escaped(part[:TEXT_LENGTH], {*range(0x20, 0x7F)} - {0x22, 0x5C})}"'
     elif isinstance(part, tuple):
         yield f"0x{part[1]:0{2 * part[0]}X}"
     elif part.word in CONSTANTS and part.parts:
@@ -389,10 +386,7 @@ def pieces(part):
 def grouped(left, parts, right):
     for number, part in enumerate(parts):
         yield ", " if number else left
-        if isinstance(part, str):
-            yield part
-        else:
-            yield from pieces(part)
+        yield from pieces(part)
     if parts:
         yield right
 

@@ -128,23 +128,21 @@ class BlockWriter:
                 chunk.clear()
 
         for line in lines:
-            is_inside = line.number <= kept_to
-            if not is_inside and folds and line.number == folds[-1]:
+            is_free, size = line.number > kept_to, line.end - line.number if folds_here(line) else 0
+            if is_free and folds and line.number == folds[-1]:
                 yield from flushed()
                 folds.pop()
                 yield self.line(line) + "</details>\n"
-                continue
-            if not is_inside and folds_here(line):
-                if line.end - line.number >= CHUNK and len(folds) < DEEPEST_FOLD // 2:
-                    yield from flushed()
-                    folds.append(line.end)
-                    yield self.head(line)
-                    self.uses += line_uses_html(line, self.sheet)
-                    continue
-                kept_to = line.end if line.end - line.number < CHUNK else 0
-            chunk.append(line)
-            if len(chunk) >= CHUNK and line.number >= kept_to:
+            elif is_free and size >= CHUNK and len(folds) < DEEPEST_FOLD // 2:
                 yield from flushed()
+                folds.append(line.end)
+                yield self.head(line)
+                self.uses += line_uses_html(line, self.sheet)
+            else:
+                kept_to = line.end if is_free and 0 < size < CHUNK else kept_to
+                chunk.append(line)
+                if len(chunk) >= CHUNK and line.number >= kept_to:
+                    yield from flushed()
         yield from flushed()
 
     def chunk(self, lines: list[Line], deepest: int) -> str:
@@ -206,9 +204,7 @@ def blocks_html(sheet: Sheet) -> list[str]:
 
 
 def uses_html(uses: Uses, sheet: Sheet) -> str:
-    def number(it: int) -> str:
-        return f"<a href=#{it}>{it}</a>" if sheet.shows(it) else f"<span>{it}</span>"
-
+    number = lambda it: f"<a href=#{it}>{it}</a>" if sheet.shows(it) else f"<span>{it}</span>"
     items = (f"<li>{path_text(path)} {' '.join(map(number, numbers))}" for path, numbers in uses.items())
     return f"<ul>{''.join(items)}</ul>"
 

@@ -77,12 +77,9 @@ class TreeWriter:
         below = f" <small>{node.below:,}</small>" if node.below else ""
         ids = " ".join(dict.fromkeys(self.identifiers.get(path, ())))
         named = f" <small class=id>{escape(ids)}</small>" if ids else ""
-        return f"{self.head_html(path, node, mark)}{kind}{marks}{below}{named}"
-
-    def head_html(self, path: Path, node: Node, mark: str) -> str:
-        if self.is_linked(path, node):
-            return f"<a{classed(mark)} href=#{path_text(path)}>{path[-1]}</a>"
-        return f"<span id={path_text(path)}>{path[-1]}</span>"
+        is_linked = self.is_linked(path, node)
+        tag, of = ("a", f"{classed(mark)} href=#{path_text(path)}") if is_linked else ("span", f" id={path_text(path)}")
+        return f"<{tag}{of}>{path[-1]}</{tag}>{kind}{marks}{below}{named}"
 
     def is_linked(self, path: Path, node: Node) -> bool:
         external = None if path in self.sheet.names.lines else self.sheet.names.externals.get(path)
