@@ -36,7 +36,7 @@ OUTSIDE = re.compile(r'table "[^"]*": ModuleCall (\\\S+)')
 
 
 def name_of(body):
-    """The path of the name that a raw body waits for, as a line for --externals wants it; None where it leads above the root."""
+    """The path of the name that a raw body waits for, for a line of --externals; None where it leads above the root."""
     at = body.fault.at or 0
     name = name_in(body.raw[at:])
     if name is None:
@@ -86,7 +86,7 @@ class Search:
             return running.run([self.program, *self.options, *more, "--externals", file.name, "--", self.folder])
 
     def fit(self, names, more=()):
-        """Keeps of each name the count that fits best, beside the others as they are. Answers the trials of its counts."""
+        """Keeps of each name the count that fits best beside the others, and answers the trials of its counts."""
         all_trials = {}
         for group in self.apart(names):
             with ThreadPoolExecutor(4) as pool:
@@ -197,8 +197,8 @@ def say(text):
 
 def report(name, bodies, trials):
     waiting = "1 body waits" if len(bodies) == 1 else f"{len(bodies)} bodies wait"
-    first = f"{waiting}, the first {bodies[0].node.path()} at {bodies[0].fault.at or 0}" if bodies else "it stands outside the methods"
-    say(f"{name}: {first}")
+    first = f"{waiting}, the first {bodies[0].node.path()} at {bodies[0].fault.at or 0}" if bodies else ""
+    say(f"{name}: {first or 'it stands outside the methods'}")
     said = {}
     for count in COUNTS:
         said.setdefault(outcome(trials[count], not bodies), []).append(count)

@@ -26,8 +26,8 @@ SCOPED = aml.OPENERS | {"Method"}
 ARCHIVE = "kernel/firmware/acpi"
 
 
-# Where a path is declared: the term's word, the byte behind its name, and the one behind it; the path of the scope that it
-# stands in, and the package lengths around it, the outer first, with its own where it has one
+# Where a path is declared: the term's word, the byte behind its name, and the one behind it; the path of the scope that
+# it stands in, and the package lengths around it, the outer first, with its own where it has one
 Place = namedtuple("Place", "word named end scope lengths")
 
 

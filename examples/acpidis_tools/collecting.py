@@ -83,18 +83,14 @@ def fields_of(note: str, is_fadt: bool) -> list[tuple[str, str, str, int | None]
     """The fields of a line below a dump's: the kind of the record, label, value and number of each."""
     unknown, words = UNKNOWN_RECORD.fullmatch(note), note.split(" ")
     if unknown:
-        pairs = [("Type", unknown[1]), ("Length", unknown[2]), ("Bytes", unknown[3])]
-        return [("Record", label, value, number_of(value, 10)) for label, value in pairs]
-    if words[0] == "Entry":
+        words = ["Record", "Type", unknown[1], "Length", unknown[2], "Bytes", unknown[3]]
+    elif words[0] == "Entry":
         words = words[:2]
-    kind = words.pop(0) if len(words) % 2 else ""
-    pairs = list(zip(words[::2], words[1::2]))
-    return [(kind, label, value, number_of(value, 16 if is_fadt or label in HEXADECIMAL else 10)) for label, value in pairs]
-
-
-def number_of(value: str, base: int) -> int | None:
-    digits = "[0-9A-F]{1,16}" if base == 16 else "[0-9]{1,10}"
-    return small(int(value, base)) if re.fullmatch(digits, value) else None
+    kind, fields = words.pop(0) if len(words) % 2 else "", []
+    for label, value in zip(words[::2], words[1::2]):
+        base, digits = (16, "[0-9A-F]{1,16}") if is_fadt or label in HEXADECIMAL else (10, "[0-9]{1,10}")
+        fields.append((kind, label, value, small(int(value, base)) if re.fullmatch(digits, value) else None))
+    return fields
 
 
 class Collector:
@@ -231,8 +227,7 @@ class Collector:
         """The device and the function by the constant _ADR of the nearest device around (6.1.1)."""
         path = self.nearest(scope, ("Device",))
         name = self.ids.get((*path, "_ADR")) if path else None
-        value = self.rows["name"][name - 1][CONSTANT[-1]] if name else None
-        number = Term(value, 0).number if value else None
+        number = Term(self.rows["name"][name - 1][CONSTANT[-1]] or "", 0).number if name else None
         return (None, None) if number is None or number >> 32 else (number >> 16, number & 0xFFFF)
 
     def add_constants(self) -> None:
@@ -287,8 +282,9 @@ class Collector:
             if term.word in STATEMENTS:
                 named, counted = (term.argument(at) if at is not None else None for at in STATEMENTS[term.word])
                 name = self.row_of(meanings.get(named.place)) if named else None
-                values = name, small(counted.number) if counted else None, line.bare[:LONGEST_STATEMENT], self.file, line.number
-                self.add("statement", self.method, path_text(line.scope), term.word, *values)
+                number, text = small(counted.number) if counted else None, line.bare[:LONGEST_STATEMENT]
+                values = term.word, name, number, text, self.file, line.number
+                self.add("statement", self.method, path_text(line.scope), *values)
 
     def how(self, term: Term, place: Place, meant: Meaning) -> str:
         """What becomes of what a name means: it is called, read, written, passed on, or named."""
@@ -326,8 +322,7 @@ class Collector:
     # ---- what bytes and numbers mean
 
     def device_of(self, line: Line) -> int | None:
-        path = self.nearest(line.scope, DEVICES)
-        return self.ids.get(path) if path else None
+        return self.ids.get(self.nearest(line.scope, DEVICES) or None)
 
     def nearest(self, path: Path, kinds: tuple[str, ...]) -> Path:
         """The nearest path around a scope that is of one of these kinds."""

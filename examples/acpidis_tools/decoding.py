@@ -29,8 +29,8 @@ FIELD_BITS = {
 }
 
 
-# A unit of a field list: the line of the list, its first bit and its width, how it is accessed, and the line before it that
-# says so, if one does
+# A unit of a field list: the line of the list, its first bit and its width, how it is accessed, and the line before it
+# that says so, if one does
 Unit = namedtuple("Unit", "head bit width access behind")
 
 

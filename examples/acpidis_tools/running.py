@@ -128,8 +128,8 @@ class Namespace(paths.Tree):
 
 
 class Method:
-    """A method of the text: its place among them, the node of its path, the lines of its body, and where that is raw its bytes
-    and their fault."""
+    """A method of the text: its place among them, the node of its path, the lines of its body, and where that is raw its
+    bytes and their fault."""
 
     def __init__(self, number, node):
         self.number, self.node, self.lines, self.raw, self.fault = number, node, [], None, None
@@ -150,8 +150,8 @@ def check_depth(scope, line, fault):
 
 
 class Listing:
-    """A text: its namespace, its methods in their order, and its lines but for the ends of blocks, each with the node of its
-    scope, and the method in whose body it stands."""
+    """A text: its namespace, its methods in their order, and its lines but for the ends of blocks, each with the node of
+    its scope, and the method in whose body it stands."""
 
     def __init__(self, text):
         self.namespace, self.methods = Namespace(), []
@@ -180,7 +180,8 @@ class Listing:
         if line.term not in SCOPES or line.method:
             return line.scope, line.method
         name = line.pieces[3] if line.pieces[2] == " (" else ""
-        node = self.namespace.found(line.scope, name) if line.term == "Scope" else self.namespace.place(line.scope, name)
+        look = self.namespace.found if line.term == "Scope" else self.namespace.place
+        node = look(line.scope, name)
         check_depth(node, line, Unusable)
         if line.term != "Method":
             return node, None

@@ -22,9 +22,9 @@ class Table(namedtuple("Table", "number file signature revision oem oem_table oe
 
 
 class Block:
-    """A definition block: a line for each of the listing's, from the line `first` on. `said` are the names on its lines, in
-    their order, with their counts of arguments, `methods` the heads and nodes of its methods, and `bodies` tell whether these
-    have terms. A text that is to be changed has the Externals that it needs, and is without the `guards`, the first and the
+    """A definition block: a line for each of the listing's, from the line `first` on. `said` are the names on its lines,
+    with their counts of arguments, `methods` the heads and nodes of its methods, and `bodies` tell whether these have
+    terms. A text that is to be changed has the Externals that it needs, and is without the `guards`, the first and the
     last line of each If that has Externals alone: iasl writes one of its own around those."""
 
     def __init__(self, table, space, is_edited=False):

@@ -81,7 +81,8 @@ def vendor(code):
 
 def gpio(code):
     """GpioInt or GpioIo, whose pins, path and vendor's bytes follow each other (6.4.3.8.1)."""
-    usage, flags, strength, debounce, pins, path, more, vendors = (Bytes(code).number(at, 2) for at in (5, 7, 10, 12, 14, 17, 19, 21))
+    usage, flags, strength, debounce = (Bytes(code).number(at, 2) for at in (5, 7, 10, 12))
+    pins, path, more, vendors = (Bytes(code).number(at, 2) for at in (14, 17, 19, 21))
     if (code[3], pins, more + vendors) != (1, 23, len(code)) or usage > 1:
         raise ValueError(NO_MACRO)
     if not pins < path < more or path - pins & 1:

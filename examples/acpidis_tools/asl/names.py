@@ -102,9 +102,9 @@ class Names:
 
 
 def externals(space, uses, own, said, rows):
-    """The Externals of what a text uses and doesn't declare, which have to stand in front; and of all else that the rows of
-    the listing have, so that iasl finds what is typed, and not what isn't there. `own` are the nodes that the text declares
-    itself, `said` what the Externals of the tables say of nodes."""
+    """The Externals of what a text uses and doesn't declare, which have to stand in front; and of all else that the rows
+    of the listing have, so that iasl finds what is typed, and not what isn't there. `own` are the nodes that the text
+    declares itself, `said` what the Externals of the tables say of nodes."""
     is_other = lambda node: node.above and node not in own and node.path() not in running.PREDEFINED
     counts = {}
     for use in uses:
@@ -116,8 +116,8 @@ def externals(space, uses, own, said, rows):
 
 
 def meant(space, use, said):
-    """The node that a name means: the nearest that is declared, else that of an External, else the root's; None where that
-    is the body's own."""
+    """The node that a name means: the nearest that is declared, else that of an External, else the root's; None where
+    that is the body's own."""
     scope, outside = use.scope, None
     for node in space.candidates(scope.node, use.named.name):
         if scope.local and node in scope.local:

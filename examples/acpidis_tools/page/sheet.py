@@ -41,7 +41,8 @@ class Sheet:
         """That of a listing's text, which is packed where it is long, if nothing else is said."""
         listing = read_listing(text)
         names = Names(listing)
-        return cls(listing, names, Decoder(listing, names), is_packed=len(text) > LONG_TEXT if is_packed is None else is_packed)
+        is_packed = len(text) > LONG_TEXT if is_packed is None else is_packed
+        return cls(listing, names, Decoder(listing, names), is_packed=is_packed)
 
     def mark(self, path: Path | None) -> str:
         return self.comparison.mark(path) if self.comparison and path is not None else ""
