@@ -25,7 +25,7 @@ from acpidis_tools.standard import counted, escaped
 HEADER, MOST_BYTES, SHOWN_BYTES, MOST_SHOWN = aml.HEADER, 16_777_216, 16, 5
 BLOCKS = (b"DSDT", b"SSDT")
 CHAIN = (b"RSD PTR ", b"XSDT", b"RSDT", b"FACP")
-LINE = re.compile(r'acpidis: (?:table "(?P<file>[^"]*)": )?(?P<word>\w+)(?: at (?P<at>\d+)| (?P<path>\\\S*))?')
+LINE = re.compile(r'acpidis: (?:table "(?P<file>[^"]*)": )?(?P<word>\w+)(?: at (?P<at>\d+)| (?P<path>\\\S*))?|.*')
 GIVEN = re.compile(r"(\\[A-Z0-9_.]+) ([0-7])")
 METHOD = re.compile(rb"\x14(?:[\x00-\x3f]|[\x40-\x4f].|[\x80-\x8f]..|[\xc0-\xcf]...)([A-Z_][A-Z0-9_]{3})(.)", re.DOTALL)
 
@@ -51,16 +51,9 @@ class Refusal:
 
     def __init__(self, line):
         form = LINE.fullmatch(line)
-        self.line = line.removeprefix("acpidis: ")
-        self.file = os.fsdecode(file_name(form["file"])) if form and form["file"] is not None else None
-        self.word = form["word"] if form else ""
-        self.at = int(form["at"]) if form and form["at"] else None
-        self.path = form["path"] if form else None
-
-
-def file_names(folder):
-    with os.scandir(folder) as entries:
-        return sorted(entry.name for entry in entries if entry.is_file(follow_symlinks=False) and entry.name != "tables.map")
+        self.line, self.word, self.path = line.removeprefix("acpidis: "), form["word"] or "", form["path"]
+        self.file = None if form["file"] is None else os.fsdecode(file_name(form["file"]))
+        self.at = int(form["at"]) if form["at"] else None
 
 
 def head_of(data):
@@ -72,7 +65,8 @@ def head_of(data):
 
 def load_order(program, folder):
     """The names of the definition blocks in the order in which they load: the program says it of their headers alone."""
-    names, found = file_names(folder), []
+    files = (entry.name for entry in os.scandir(folder) if entry.is_file(follow_symlinks=False))
+    names, found = sorted(name for name in files if name != "tables.map"), []
     with tempfile.TemporaryDirectory() as room:
         for name in names:
             (pathlib.Path(room) / name).write_bytes(head_of(read_file(folder, name)))
@@ -176,11 +170,13 @@ def say_counts(found, reader, uses):
     for use in uses:
         known = found.space.count(use.scope, use.name)
         if known and known[0] and use.read == 0:
+            takes = f"takes {counted(known[0], 'argument')} ({told(found, known[1])}), and was read without them"
             with_them = ": `--any-run` reads calls outside the methods" if found.wants_any_run else ""
-            yield f"  {use.name} takes {counted(known[0], 'argument')} ({told(found, known[1])}), and was read without them{with_them}"
+            yield f"  {use.name} {takes}{with_them}"
         elif found.any_run and not known and use.name.segments and use.name.segments[-1] in ahead:
             at, count = ahead[use.name.segments[-1]]
-            yield f"  nothing tells of {use.name} before it; a Method of {counted(count, 'argument')} may stand at offset {at}"
+            method = f"a Method of {counted(count, 'argument')} may stand at offset {at}"
+            yield f"  nothing tells of {use.name} before it; {method}"
             place = found.space.given_place(use.scope, use.name)
             path = path_of(place) if place else "?"
             yield f"  a line `{path} {count}` in the file of --externals would tell it"
@@ -234,8 +230,8 @@ def say_calls(found, refusal):
             return
         term = f", in {aml.text(use.around)}" if use.around else ""
         yield f"{use.name} at {found.place(reader.table, use.term.at)}, in the scope {path_of(use.scope)}{term}"
-        takes = f"it takes {counted(known[0], 'argument')}: {told(found, known[1])}" if known else "nothing tells how many it takes"
-        yield f"  read with {counted(use.read, 'argument')}; {takes}"
+        takes = f"it takes {counted(known[0], 'argument')}: {told(found, known[1])}" if known else ""
+        yield f"  read with {counted(use.read, 'argument')}; {takes or 'nothing tells how many it takes'}"
 
 
 SAYERS = {
@@ -244,14 +240,15 @@ SAYERS = {
 }
 
 
-def say_file(asked, refusal):
+def say_file(refusal, data):
     """What a file has that is no whole table."""
-    data = read_file(asked.folder, refusal.file)
-    yield f"{escaped(os.fsencode(refusal.file))} has {len(data)} bytes{' at least' * (len(data) > MOST_BYTES)}, and begins with"
+    least = " at least" * (len(data) > MOST_BYTES)
+    yield f"{escaped(os.fsencode(refusal.file))} has {len(data)} bytes{least}, and begins with"
     yield f"  {bytes_at(data, 0)}"
     length = int.from_bytes(data[4:8], "little")
     if len(data) >= 8 and not data.startswith(b"RSD PTR "):
-        yield f"  its Length is {length}" + (f", and so many bytes sum to {sum(data[:length]) % 256}" if length <= len(data) else "")
+        total = f", and so many bytes sum to {sum(data[:length]) % 256}" if length <= len(data) else ""
+        yield f"  its Length is {length}{total}"
     if refusal.at is not None:
         yield f"  at byte {refusal.at} stands {bytes_at(data, refusal.at)}"
 
@@ -267,23 +264,22 @@ def say_folder(asked):
             yield f"  {escaped(name)} isn't UTF-8"
 
 
-def words_on(asked, refusal):
+def words_on(asked, refusal, data):
     """What is said of a refusal, and the ways on, of an SSDT and of a DSDT."""
-    begin = read_file(asked.folder, refusal.file) if refusal.word == "Short" else b""
-    if begin.startswith(command.PACKED):
+    if refusal.word == "Short" and data.startswith(command.PACKED):
         return WORDS["a packed file"]
-    if DUMPED.match(begin):
+    if refusal.word == "Short" and DUMPED.match(data):
         return WORDS["the text of acpidump"]
     # No option takes a Return outside the methods.
-    is_code = refusal.word == "ModuleCode" and None not in (refusal.file, refusal.at)
-    code = aml.code_of(read_file(asked.folder, refusal.file)) if is_code else b""
-    told_by = {**WORDS, **RAN} if asked.any_run or code[refusal.at :][:1] == b"\xa4" else WORDS
+    code = aml.code_of(data)[refusal.at :] if refusal.word == "ModuleCode" and refusal.at is not None else b""
+    told_by = {**WORDS, **RAN} if asked.any_run or code[:1] == b"\xa4" else WORDS
     return told_by.get(refusal.word, ("", [], []))
 
 
 def say_all(asked, program, refusal):
     yield refusal.line
-    what, ways, ways_of_dsdt = words_on(asked, refusal)
+    data = b"" if refusal.file is None else read_file(asked.folder, refusal.file)
+    what, ways, ways_of_dsdt = words_on(asked, refusal, data)
     if refusal.file is not None and (refusal.word in AT_BYTES or refusal.word in SAYERS):
         found = Set(asked, program, refusal)
         try:
@@ -292,12 +288,12 @@ def say_all(asked, program, refusal):
         except aml.TooManySteps:
             yield "  the scopes are too deep for this script to follow"
     elif refusal.file is not None:
-        yield from say_file(asked, refusal)
+        yield from say_file(refusal, data)
     else:
         yield from itertools.islice(say_folder(asked), MOST_SHOWN)
-    if refusal.file is not None and read_file(asked.folder, refusal.file).startswith(b"DSDT"):
-        ways = ways_of_dsdt
-    ways = [way for way in ways if (asked.externals or way != WAYS["no-count"]) and (asked.has_any_run or way != WAYS["any-run"])]
+    ways = ways_of_dsdt if data.startswith(b"DSDT") else ways
+    without = [WAYS["no-count"]] * (not asked.externals) + [WAYS["any-run"]] * (not asked.has_any_run)
+    ways = [way for way in ways if way not in without]
     if what:
         yield what
     if refusal.line.startswith(("tables.map line", "externals line")):
@@ -307,24 +303,20 @@ def say_all(asked, program, refusal):
     yield "Way on: " + ("; or ".join(ways) or way)
 
 
-def say(asked):
-    """The lines to print, and the status."""
+def main():
+    sys.stdout.reconfigure(errors="backslashreplace")
+    sys.stderr.reconfigure(errors="backslashreplace")
+    asked = command.parse(command.parser(__doc__, "FOLDER", usage="%(prog)s [OPTION..] FOLDER"))
     program = running.program()
     words = [program, *command.words_of(asked.options), "--check", "--", asked.folder]
     *_, line = running.ended(words, "surrogateescape")
     if line is None:
-        return ["the set isn't refused"], 0
+        print("the set isn't refused")
+        return
     asked.any_run, asked.externals = "--any-run" in asked.options, asked.options.get("--externals")
     asked.has_any_run = "--any-run" in command.known()
-    return list(say_all(asked, program, Refusal(line))), 1
-
-
-def main():
-    sys.stdout.reconfigure(errors="backslashreplace")
-    sys.stderr.reconfigure(errors="backslashreplace")
-    said, status = say(command.parse(command.parser(__doc__, "FOLDER", usage="%(prog)s [OPTION..] FOLDER")))
-    print("\n".join(said))
-    sys.exit(status)
+    print("\n".join(say_all(asked, program, Refusal(line))))
+    sys.exit(command.REFUSED)
 
 
 if __name__ == "__main__":
