@@ -67,9 +67,10 @@ class Block:
             self.bodies[-1] = False
             # No ASL, which iasl refuses: else it would make an empty method of it
             return f"Raw {{}} //{line.pieces[2]}"
-        turned, names = terms.term(line.bare, int(self.table.revision), self.tell)
-        self.said += [(named.name, named.count) for named in names if named.name]
-        node = self.names.line(line, names)
+        turner = terms.Turner(int(self.table.revision), self.tell)
+        turned = turner.line(line.bare)
+        self.said += [(named.name, named.count) for named in turner.names if named.name]
+        node = self.names.line(line, turner.names)
         if line.term == "Method":
             self.bodies.append(True)
             self.methods.append((line, node))

@@ -46,41 +46,6 @@ def plain(name, tell):
     return name
 
 
-def term(text, revision, tell):
-    """A line of terms as one of ASL, and the names on it. A line that is none of a listing is a ValueError."""
-    if text.startswith("Method ("):
-        return method(text, tell)
-    if text.startswith("External ("):
-        return external(text, tell)
-    if ALONE.fullmatch(text):
-        tell("a value that nothing takes")
-    turner = Turner(revision, tell)
-    turned = turner.line(text)
-    if NAME.fullmatch(text):
-        return turned + " ()", [Named(text, is_value=True, is_call=True)]
-    return turned, turner.names
-
-
-def method(text, tell):
-    form = METHOD.fullmatch(text)
-    if not form:
-        raise ValueError("none of a listing")
-    name, count, rule, level = form.groups()
-    level = f", {level}" if level != "0" else ""
-    return f"Method ({plain(name, tell)}, {count}, {rule}{level}) {{", [Named(name, int(count))]
-
-
-def external(text, tell):
-    form = EXTERNAL.fullmatch(text)
-    if not form:
-        raise ValueError("none of a listing")
-    name, kind, count = form[1], int(form[2], 16), int(form[3])
-    word = picked(language.OBJECTS, kind, "an External of the type", tell)
-    if count and word != "MethodObj":
-        tell(f"an External of the type {word} with arguments")
-    return declared(plain(name, tell), word, count), [Named(name, count, is_call=word == "MethodObj", word=word)]
-
-
 def declared(name, word, count=0):
     """The External of a name, of a type and with a count of arguments."""
     arguments = f", UnknownObj, {{{', '.join(['UnknownObj'] * count)}}}" if count else ""
@@ -109,20 +74,42 @@ def spelled(term):
 
 
 class Turner:
-    """Turns a line, term by term, and keeps its names."""
+    """Turns a line, term by term, and keeps its names. A line that is none of a listing is a ValueError."""
 
     def __init__(self, revision, tell):
         self.revision, self.tell, self.names = revision, tell, []
 
     def line(self, text):
-        """A line of one term, which may open a block."""
+        """A line of one term, which may open a block, as one of ASL."""
+        if text.startswith(("Method (", "External (")):
+            form = METHOD.fullmatch(text) or EXTERNAL.fullmatch(text)
+            if not form:
+                raise ValueError("none of a listing")
+            return self.method(*form.groups()) if form.re is METHOD else self.external(*form.groups())
+        if ALONE.fullmatch(text):
+            self.tell("a value that nothing takes")
         opens = " {" if text.endswith(" {") else ""
         steps = ({"(": 1, "{": 1, ")": -1, "}": -1}.get(found[0], 0) for found in BRACKET.finditer(text))
         is_deep = max(itertools.accumulate(steps), default=0) > DEEPEST
         found = [] if is_deep else terms_in(WORD.split(text.removesuffix(opens)))
         if len(found) != 1 or spelled(found[0]) + opens != text:
             raise ValueError("none of a listing")
-        return self.term(found[0], OUTSIDE) + opens
+        turned = self.term(found[0], OUTSIDE) + opens
+        if NAME.fullmatch(text):
+            turned, self.names = turned + " ()", [Named(text, is_value=True, is_call=True)]
+        return turned
+
+    def method(self, name, count, rule, level):
+        self.names = [Named(name, int(count))]
+        level = f", {level}" if level != "0" else ""
+        return f"Method ({plain(name, self.tell)}, {count}, {rule}{level}) {{"
+
+    def external(self, name, kind, digit):
+        word, count = picked(language.OBJECTS, int(kind, 16), "an External of the type", self.tell), int(digit)
+        if count and word != "MethodObj":
+            self.tell(f"an External of the type {word} with arguments")
+        self.names = [Named(name, count, is_call=word == "MethodObj", word=word)]
+        return declared(plain(name, self.tell), word, count)
 
     def term(self, term, part):
         text, kinds = self.word(term, part), aml.PARTS.get(term.word, "")

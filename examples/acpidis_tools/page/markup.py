@@ -15,7 +15,7 @@ from acpidis_tools.comparison import differences
 from acpidis_tools.errors import raw_lines
 from acpidis_tools.listing import HEADER, TEXT, Dump, Listing, path_text
 from acpidis_tools.names import PREDEFINED
-from acpidis_tools.page.lines import blocks_html, uses_html
+from acpidis_tools.page.lines import BlockWriter
 from acpidis_tools.page.sheet import Sheet, classed, link, packed
 from acpidis_tools.page.tree import TreeWriter
 from acpidis_tools.standard import counted
@@ -48,10 +48,10 @@ def undeclared_html(sheet: Sheet) -> list[str]:
     open_paths = [path for path in PREDEFINED if path not in names.lines]
     predefined = [
         f"<div><dfn id={path_text(path)}>{path_text(path)}</dfn> {PREDEFINED[path]}"
-        f"{uses_html(names.uses[path_text(path)], sheet)}</div>\n" for path in open_paths
+        f"{sheet.uses_html(names.uses[path_text(path)])}</div>\n" for path in open_paths
     ]
     strays = [
-        f"<div><u>{word}</u>{uses_html(uses, sheet)}</div>\n" for word, uses in sorted(names.strays.items())
+        f"<div><u>{word}</u>{sheet.uses_html(uses)}</div>\n" for word, uses in sorted(names.strays.items())
         if sheet.shown is None or any(sheet.shows(number) for numbers in uses.values() for number in numbers)
     ]
     end = "</section>\n"
@@ -186,8 +186,9 @@ def page(sheet: Sheet) -> str:
     tree = TreeWriter(sheet)
     parts = [head_html(sheet, style, script), *navigation_html(sheet, tree)]
     parts.append("<main id=main tabindex=-1>\n<p id=where hidden></p>\n")
-    for part in (comparison_html, raw_list_html, tables_html, blocks_html, undeclared_html):
+    for part in (comparison_html, raw_list_html, tables_html):
         parts += part(sheet)
+    parts += [*BlockWriter(sheet).write(), *undeclared_html(sheet)]
     # What is looked through by the search
     index = f'<script type="text/plain" id=index>{packed(chr(10).join(tree.index()))}</script>\n'
     parts.append(f"</main>\n{index}<script>{script}</script>\n</body>\n</html>\n")

@@ -13,7 +13,7 @@ from acpidis_tools.comparison import Comparison
 from acpidis_tools.decoding import Decoder
 from acpidis_tools.errors import Fault
 from acpidis_tools.listing import Line, Listing, NoListing, Path, path_of, path_text, read_listing
-from acpidis_tools.names import PREDEFINED, Meaning, Names, Sort
+from acpidis_tools.names import PREDEFINED, Meaning, Names, Sort, Uses
 
 # The page of a longer listing has its lines packed.
 LONG_TEXT = 200_000
@@ -52,6 +52,11 @@ class Sheet:
 
     def has_path(self, path: Path) -> bool:
         return self.paths is None or path in self.paths
+
+    def uses_html(self, uses: Uses) -> str:
+        number = lambda it: f"<a href=#{it}>{it}</a>" if self.shows(it) else f"<span>{it}</span>"
+        items = (f"<li>{path_text(path)} {' '.join(map(number, numbers))}" for path, numbers in uses.items())
+        return f"<ul>{''.join(items)}</ul>"
 
     def has_anchor(self, meaning: Meaning) -> bool:
         """Whether what a name leads to stands on the page."""
