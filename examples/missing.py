@@ -23,8 +23,9 @@ from concurrent.futures import ThreadPoolExecutor
 from functools import partial
 
 from acpidis_tools import command, listing, running
-from acpidis_tools.errors import name_in
+from acpidis_tools.errors import name_at
 from acpidis_tools.listing import path_of, path_text
+from acpidis_tools.paths import Name
 
 COUNTS = range(8)
 MOST_NAMES = 1000
@@ -37,10 +38,10 @@ OUTSIDE = re.compile(r'table "[^"]*": ModuleCall (\\\S+)')
 
 def name_of(body):
     """The path of the name that a raw body waits for, for a line of --externals; None where it leads above the root."""
-    at = body.fault.at or 0
-    name = name_in(body.raw[at:])
-    if name is None:
+    text, at = name_at(body.fault, body.raw), body.fault.at or 0
+    if text is None:
         raise running.Unusable(f"no name stands at {at} of a body that wants one: is this another version of acpidis?")
+    name = Name.of(text)
     place = name.segments if name.is_searched else name.placed(path_of(body.node.path()))
     return None if place is None else path_text(place)
 

@@ -202,7 +202,7 @@ class Collector:
         path = Name.of(line.words[1]).placed(line.scope) or ()
         return self.add(
             "method", self.ids[path], number_in(count), int(serialized == "Serialized"), number_in(level), int(is_raw),
-            str(fault) if fault else None, name_at(fault, body), self.file, line.number,
+            str(fault) if fault else None, name_at(fault, body.code if is_raw else b""), self.file, line.number,
         )
 
     def add_region(self, line: Line) -> None:

@@ -52,18 +52,12 @@ def read_errors(text: bytes, listing: Listing) -> dict[int, Fault]:
     return faults
 
 
-def name_at(fault: Fault | None, body: Line) -> str | None:
-    """The name that a raw body waits for, by its fault."""
+def name_at(fault: Fault | None, code: bytes) -> str | None:
+    """The name that a raw body of these bytes waits for (docs/names.md), by its fault, and nothing where none stands there."""
     if not fault or fault.word != "UnknownName" or fault.at is None:
         return None
-    name = name_in(body.code[fault.at :])
-    return str(name) if name else None
-
-
-def name_in(code: bytes) -> aml.Name | None:
-    """The name that stands at the front of the bytes (docs/names.md), and nothing where none does."""
     try:
-        name, _ = aml.Reader(0, code, aml.Space(0)).name(0, len(code))
+        name, _ = aml.Reader(0, code, aml.Space(0)).name(fault.at, len(code))
     except aml.Stopped:
         return None
-    return name if name.segments else None
+    return str(name) if name.segments else None

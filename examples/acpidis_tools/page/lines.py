@@ -176,7 +176,7 @@ class BlockWriter:
             at = 2 + 4 * (fault.at if fault.at is not None else len(line.code))
             if at < len(shown) - 1:
                 shown = f"{shown[:at]}<mark>{shown[at:at + 2]}</mark>{shown[at + 2:]}"
-                name = name_at(fault, line)
+                name = name_at(fault, line.code)
                 said += f", {name}" if name else ""
         return f"{'  ' * line.depth}<b>Raw</b>{shown}<em class=note>{said}</em>"
 

@@ -68,14 +68,14 @@ class Sheet:
     def only(self, wanted: str) -> None:
         """Leaves what stands at and below a path, or in a file of that name."""
         path = tuple(segment.ljust(4, "_") for segment in path_of(wanted))
-        lines = self.lines_at(path) if wanted.startswith("\\") else self.lines_of(wanted)
+        if wanted.startswith("\\"):
+            lines = self.lines_at(path)
+        else:
+            lines = {it.number for block in self.listing.blocks if block.file == f'"{wanted}"' for it in block.lines}
         if not lines:
             raise NoListing(f"nothing in it is {wanted[:80]}: --only takes a path like \\_SB_.PCI0 or a file like dsdt.dat")
         self.shown, self.is_packed = lines, len(lines) > LONG_TEXT // 40
         self.paths = {path for path, line in self.names.lines.items() if line.number in lines}
-
-    def lines_of(self, file: str) -> set[int]:
-        return {line.number for block in self.listing.blocks if block.file == f'"{file}"' for line in block.lines}
 
     def lines_at(self, wanted: Path) -> set[int]:
         """The lines at and below a path, with the heads and ends of the blocks that they stand in."""
