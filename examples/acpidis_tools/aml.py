@@ -114,12 +114,6 @@ class Space(paths.Tree):
         node = node.target or node
         return (node.count, node) if node.is_declared() else (node.external or 0, node)
 
-    def declare(self, node, table, term):
-        if not node.places and term.word == "Method":
-            node.count = term.parts[1][1] & 7
-        if len(node.places) < KEPT_PLACES:
-            node.places += ((table, term.at, term.word),)
-
 
 # ---- reading
 
@@ -343,8 +337,10 @@ class Reader:
 
     def declared(self, term, name):
         node = self.placed(term, name)
-        if node:
-            self.space.declare(node, self.table, term)
+        if node and not node.places and term.word == "Method":
+            node.count = term.parts[1][1] & 7
+        if node and len(node.places) < KEPT_PLACES:
+            node.places += ((self.table, term.at, term.word),)
         return node
 
     def placed(self, term, name):

@@ -24,30 +24,21 @@ NO_MACRO = "a Connection of bytes that no macro here has"
 def element(text, tell):
     """An element of a field list as ASL; the unit that it names, and the name that it uses, or None."""
     unit, access, link = UNIT.fullmatch(text), ACCESS.fullmatch(text), LINK.fullmatch(text)
+    if unit and unit[1] == "Reserved":
+        return f", {unit[2]},", None, None
     if unit:
-        return of_unit(unit[1], unit[2], tell), unit[1] if unit[1] != "Reserved" else None, None
-    if access:
-        return of_access([int(number, 16) for number in access[1].split(", ")], tell), None, None
-    if not link:
+        if unit[2] == "0":
+            tell(f"the unit {unit[1]} without a bit")
+        return f"{plain(unit[1], tell)}, {unit[2]},", unit[1], None
+    if link:
+        return connection(link[1], tell) + ",", None, link[1] if NAME.fullmatch(link[1]) else None
+    if not access:
         raise ValueError("none of a listing")
-    name = link[1] if NAME.fullmatch(link[1]) else None
-    return connection(link[1], tell) + ",", None, name
-
-
-def of_unit(name, bits, tell):
-    if name == "Reserved":
-        return f", {bits},"
-    if bits == "0":
-        tell(f"the unit {name} without a bit")
-    return f"{plain(name, tell)}, {bits},"
-
-
-def of_access(numbers, tell):
-    kind, attribute, *length = numbers
+    kind, attribute, *length = (int(number, 16) for number in access[1].split(", "))
     if bool(length) != (attribute in language.EXTENDED):
         tell(f"{'an ExtendedAccess' if length else 'an Access'} of the attribute {attribute}")
     more = f"{language.EXTENDED.get(attribute, 'AttribBytes')} (0x{length[0]:02X})" if length else f"0x{attribute:02X}"
-    return f"AccessAs ({picked(standard.ACCESS_TYPES, kind, 'the access type', tell)}, {more}),"
+    return f"AccessAs ({picked(standard.ACCESS_TYPES, kind, 'the access type', tell)}, {more}),", None, None
 
 
 def connection(inner, tell):
