@@ -164,9 +164,9 @@ class Lines:
 
 
 class Facts:
-    """Numbers the rows of all machines, and hands them on. Code that machines share is kept once, with the lines of the first
-    one's text: `codes` has its row, or why there is none, and how many lines stand above it there, by its sum. `lacking` are
-    the machines without facts, each with its fault."""
+    """Numbers the rows of all machines, and hands them on. Code that machines share is kept once, with the lines of the
+    first one's text: `codes` has its row, or why there is none, and how many lines stand above it there, by its sum.
+    `lacking` are the machines without facts, each with its fault."""
 
     def __init__(self, sink: Database | Lines):
         self.sink = sink
@@ -258,8 +258,8 @@ def add_all(facts: Facts, machines: Iterator[Machine], jobs: int) -> None:
 
 
 def outcome(machine: Machine, result: Callable) -> tuple[str, dict[str, list[list]]]:
-    """What comes of a machine's listing. Where a process was ended, which may have read another one's, this is read again
-    by a process of its own."""
+    """What comes of a machine's listing. Where a process was ended, which may have read another one's, this is read
+    again by a process of its own."""
     try:
         with contextlib.suppress(BrokenProcessPool):
             return result()

@@ -76,10 +76,8 @@ class Search:
     def run(self, counts, more=()):
         self.progress.step()
         if self.progress.done > MOST_RUNS:
-            raise running.Unusable(
-                f"more than {MOST_RUNS} runs are wanted: the {len(self.counts)} names that are met so far stand in the same"
-                " bodies; give what you know by --externals"
-            )
+            met = f"the {len(self.counts)} names that are met so far stand in the same bodies"
+            raise running.Unusable(f"more than {MOST_RUNS} runs are wanted: {met}; give what you know by --externals")
         with tempfile.NamedTemporaryFile("w", prefix="counts") as file:
             file.write(self.given)
             file.writelines(f"{path} {count}\n" for path, count in counts.items())
@@ -99,7 +97,7 @@ class Search:
         return all_trials
 
     def outcomes(self, names, more, count):
-        """What comes of each name where all of them have this count. A set that is refused for one is tried in halves."""
+        """What comes of each name where all have this count. A set that is refused for one is tried in halves."""
         run = self.run({**self.counts, **dict.fromkeys(names, count)}, more)
         if run.refused and len(names) > 1:
             half = len(names) // 2

@@ -1,7 +1,8 @@
 """Reads the AML of tables from the left, as far as it can: for the scripts beside this file.
 
-A name has the arguments that the tables told so far, and none where they told nothing. What comes is for looking at; what
-tables mean the program alone says. Each byte is read once, and the search for names has a bound: the cost grows as the bytes.
+A name has the arguments that the tables told so far, and none where they told nothing. What comes is for looking at;
+what tables mean the program alone says. Each byte is read once, and the search for names has a bound: the cost grows as
+the bytes.
 """
 
 import pathlib
@@ -66,7 +67,7 @@ class Term:
 
 
 class Node(paths.Node):
-    """A path: what declares it, each a table, an offset and a mnemonic; how many arguments it takes, as far as is known."""
+    """A path: what declares it, each a table, an offset and a mnemonic; how many arguments it takes, if that is known."""
 
     __slots__ = ("places", "is_predefined", "count", "external", "given", "target")
 
@@ -96,7 +97,7 @@ class Space(paths.Tree):
             raise TooManySteps
 
     def find(self, scope, name):
-        """What a name leads to: the first that is declared, else the first of an External; None where there is neither."""
+        """What a name leads to: the first that is declared, else the first of an External; None where neither is."""
         external = None
         for node in self.candidates(scope, name):
             if node.is_declared():
@@ -125,8 +126,8 @@ Use = namedtuple("Use", "term name scope read around")
 class Reader:
     """Reads a table up to an offset. Where `has_calls` isn't set no name has arguments.
 
-    When it stops, `open` are the terms that it is in, the outer first, `scope` is where it stands, and `before` the term
-    in front, if it stands among the terms of a block.
+    When it stops, `open` are the terms that it is in, the outer first, `scope` is where it stands, and `before` the
+    term in front, if it stands among the terms of a block.
     """
 
     def __init__(self, table, code, space, stop=None, has_calls=True):

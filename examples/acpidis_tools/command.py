@@ -1,4 +1,4 @@
-"""What all scripts have of a command: the words of its line, the options of acpidis that it passes on, and how it ends."""
+"""What all scripts have of a command: the words of its line, the options of acpidis that it passes on, its end."""
 
 import argparse
 import contextlib
@@ -108,8 +108,8 @@ class Progress:
 
 
 def run(main):
-    """Runs the main function of a script, and writes out what it printed. Where a file is at fault, writing fails, or memory
-    ends, it ends in a line."""
+    """Runs the main function of a script, and writes out what it printed. Where a file is at fault, writing fails, or
+    memory ends, it ends in a line."""
     try:
         # Standard output may be closed. With PYTHONUNBUFFERED a write of a part would pass for one of the whole.
         how = {"encoding": sys.stdout.encoding, "errors": sys.stdout.errors} if sys.stdout else {}

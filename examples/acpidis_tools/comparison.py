@@ -21,8 +21,8 @@ Text = tuple[str, ...]
 
 class Comparison(namedtuple("Comparison", "other adds lacks changes here lines tables")):
     """What another listing says: the texts of the paths that it adds and of those that it changes, and the paths that
-    it lacks, with the texts here of those that it changes; the numbers of the lines here that differ; and of the tables,
-    by their files, the lines that it alone has, None where it has no such file."""
+    it lacks, with the texts here of those that it changes; the numbers of the lines here that differ; and of the
+    tables, by their files, the lines that it alone has, None where it has no such file."""
 
     def mark(self, path: Path) -> str:
         """How a path differs, in a word, and nothing where it doesn't."""
@@ -53,7 +53,7 @@ def alike(here: Text, there: Text) -> tuple[int, int]:
 
 
 def differences(here: Text, there: Text) -> list[tuple[str, str]]:
-    """The lines of two texts in their order, each with `del` where the first alone has it, and `ins` where the second."""
+    """The lines of two texts in their order, each with `del` where the first alone has it, `ins` where the second."""
     first, last = alike(here, there)
     ours, theirs = here[first:len(here) - last], there[first:len(there) - last]
     found = [("", line) for line in here[:first]]

@@ -60,8 +60,8 @@ def path_text(path: Path) -> str:
 
 
 class Line:
-    """A line of a definition block: every second of its pieces is a word. It may open a block, up to the line `end`, and
-    stands in that of the line `above`.
+    """A line of a definition block: every second of its pieces is a word. It may open a block, up to the line `end`,
+    and stands in that of the line `above`.
 
     `scope` is where its names are read, `method` the path of the method in whose body it stands, `declared` the place
     among its words of the name that it declares."""
@@ -243,7 +243,7 @@ def reader_of(text: bytes) -> Reader:
 
 
 def read_dumps(text: bytes) -> tuple[list[Dump], list[str], int]:
-    """The dumps of a listing alone, the files of its definition blocks, and how many lines stand above its namespace."""
+    """The dumps of a listing, the files of its definition blocks, and how many lines stand above its namespace."""
     reader = reader_of(text)
     dumps = reader.dumps()
     return dumps, [form[1] for form in map(BLOCK.fullmatch, reader.lines[reader.at:]) if form], reader.at

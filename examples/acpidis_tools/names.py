@@ -167,8 +167,8 @@ class Names:
         return path
 
     def lead(self, line: Line, word: str) -> Path:
-        """Where the source of an Alias, or the name of a Scope, leads by what stands before it: a Scope of nothing opens
-        the path at which it is placed."""
+        """Where the source of an Alias, or the name of a Scope, leads by what stands before it: a Scope of nothing
+        opens the path at which it is placed."""
         found = self.find(line.scope, Name.of(word))
         if not found and line.term == "Alias":
             raise NoListing(f"line {line.number}: {word} leads nowhere")

@@ -1,5 +1,5 @@
-"""The packages and buffers of some predefined objects in words, a row for each of their parts: _PRT, _DSD, _PLD and _UPC of the ACPI
-Specification 6.5, and _WDG, by which Windows finds what a device has for WMI."""
+"""The packages and buffers of some predefined objects in words, a row for each of their parts: _PRT, _DSD, _PLD and
+_UPC of the ACPI Specification 6.5, and _WDG, by which Windows finds what a device has for WMI."""
 
 from __future__ import annotations
 
@@ -127,8 +127,8 @@ def upc(value: Term) -> Iterator[str]:
 
 
 def wdg(value: Term) -> Iterator[str]:
-    """The blocks of data, methods and events that a device has for WMI: of each 16 bytes of GUID, two letters or the number of
-    the event, how many there are, and flags."""
+    """The blocks of data, methods and events that a device has for WMI: of each 16 bytes of GUID, two letters or the
+    number of the event, how many there are, and flags."""
     code = data(value)
     if len(code) % WDG_LENGTH or not code:
         raise NoForm

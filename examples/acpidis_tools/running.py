@@ -44,7 +44,7 @@ def refused(line, options):
 
 
 def command():
-    """The command that ACPIDIS names, else the launcher of this repository, else the program, on PATH or beside the script."""
+    """The command that ACPIDIS names, else this repository's launcher, else the program, on PATH or beside the script."""
     named = os.environ.get("ACPIDIS")
     if not named and LAUNCHER.is_file():
         return str(LAUNCHER)
@@ -66,8 +66,8 @@ def program():
 
 
 class Node(paths.Node):
-    """A path: its kind, a method's as its count and an Alias's as the path that it stands for, whether it only may stand,
-    the greatest count of the methods that are declared there, and the count of a path that isn't declared."""
+    """A path: its kind, a method's as its count and an Alias's as the path that it stands for, whether it only may
+    stand, the greatest count of the methods that are declared there, and the count of a path that isn't declared."""
 
     __slots__ = ("kind", "is_maybe", "most", "count")
 
@@ -128,8 +128,8 @@ class Namespace(paths.Tree):
 
 
 class Method:
-    """A method of the text: its place among them, the node of its path, the lines of its body, and where that is raw its
-    bytes and their fault."""
+    """A method of the text: its place among them, the node of its path, the lines of its body, and where that is raw
+    its bytes and their fault."""
 
     def __init__(self, number, node):
         self.number, self.node, self.lines, self.raw, self.fault = number, node, [], None, None
@@ -150,8 +150,8 @@ def check_depth(scope, line, fault):
 
 
 class Listing:
-    """A text: its namespace, its methods in their order, and its lines but for the ends of blocks, each with the node of
-    its scope, and the method in whose body it stands."""
+    """A text: its namespace, its methods in their order, and its lines but for the ends of blocks, each with the node
+    of its scope, and the method in whose body it stands."""
 
     def __init__(self, text):
         self.namespace, self.methods = Namespace(), []

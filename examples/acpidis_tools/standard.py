@@ -55,7 +55,7 @@ def named(words: tuple, number: int) -> str:
 
 
 def status_words(number: int, is_power: bool = False) -> str:
-    """What _STA says with a number: of a device, where the last bit counts of a battery alone, or of a power resource."""
+    """What _STA says with a number: of a device, whose last bit counts of a battery alone, or of a power resource."""
     if is_power:
         return named(WORDS["POWER"], number)
     *bits, battery = WORDS["STATUS_BITS"]
@@ -88,8 +88,8 @@ def with_name(identifier: str) -> str:
 
 
 def uuid_text(data: bytes) -> str:
-    """The UUID that `ToUUID` makes these bytes of, and nothing where they hardly are one: its version is 1 to 5, and its
-    variant that of the standard (RFC 4122)."""
+    """The UUID that `ToUUID` makes these bytes of, and nothing where they hardly are one: its version is 1 to 5, and
+    its variant that of the standard (RFC 4122)."""
     if len(data) != UUID_LENGTH:
         return ""
     text = str(uuid.UUID(bytes_le=data))
