@@ -196,11 +196,11 @@ class Names:
             for word, meaning in zip(filter(is_name, line.words), meanings):
                 if meaning.sort is Sort.LOCAL and meaning.path is not None:
                     (units if line.declared == FIRST_WORD else own)[meaning.path] = line.number
-                elif meaning.sort is Sort.LEADS:
-                    for meant in (meaning, *meaning.others):
-                        add_use(self.uses[meant.anchor], line)
-                elif meaning.sort is Sort.NOTHING:
-                    add_use(self.strays[word], line)
+                used = [self.uses[meant.anchor] for meant in (meaning, *meaning.others) if meant.sort is Sort.LEADS]
+                for uses in [self.strays[word]] if meaning.sort is Sort.NOTHING else used:
+                    numbers = uses[line.method or line.scope]
+                    if numbers[-1:] != [line.number]:
+                        numbers.append(line.number)
 
     def declaration(self, line: Line, word: str) -> Meaning:
         path = Name.of(word).placed(line.scope)
@@ -236,12 +236,6 @@ def word_at(line: Line, place: int) -> str:
     if place >= len(line.words):
         raise NoListing(f"line {line.number} isn't one of a listing of acpidis")
     return line.words[place]
-
-
-def add_use(uses: Uses, line: Line) -> None:
-    numbers = uses[line.method or line.scope]
-    if not numbers or numbers[-1] != line.number:
-        numbers.append(line.number)
 
 
 def leading(path: Path, anchor: str = "") -> Meaning:

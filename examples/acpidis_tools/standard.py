@@ -83,8 +83,7 @@ def eisa_number(identifier: str) -> int | None:
 
 def with_name(identifier: str) -> str:
     """An identifier of a device, with its name."""
-    name = DEVICE_NAMES.get(identifier, "")
-    return f"{identifier} {name}".rstrip()
+    return f"{identifier} {DEVICE_NAMES.get(identifier, '')}".rstrip()
 
 
 def uuid_text(data: bytes) -> str:
@@ -98,5 +97,4 @@ def uuid_text(data: bytes) -> str:
 
 
 def uuid_with_name(text: str) -> str:
-    name = UUID_NAMES.get(text, "")
-    return f"UUID {text} {name}".rstrip()
+    return f"UUID {text} {UUID_NAMES.get(text, '')}".rstrip()

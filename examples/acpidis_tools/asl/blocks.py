@@ -81,7 +81,8 @@ class Block:
         found = []
         for (line, node), has_terms in zip(self.methods, self.bodies):
             if node.path() == path and not (found and line.number < found[-1].line.end):
-                found.append(Found(self, line, node, has_terms))
+                told = [it for it in self.unspelled if line.number < it[0] < line.end]
+                found.append(Found(self, self.table, line, node, told, has_terms))
         return found
 
     def text(self, rows, said):
@@ -103,16 +104,8 @@ def around(head, lines, *about):
     return [head, *wanted, *lines, *([OTHERS, *others] if others else []), "}"]
 
 
-class Found(namedtuple("Found", "block line node has_terms")):
+class Found(namedtuple("Found", "block table line node told has_terms")):
     """A method of a listing, as a definition block with nothing else."""
-
-    @property
-    def table(self):
-        return self.block.table
-
-    @property
-    def told(self):
-        return [it for it in self.block.unspelled if self.line.number < it[0] < self.line.end]
 
     def text(self, rows, said):
         names, first, end = self.block.names, self.line.number, self.line.end

@@ -10,7 +10,7 @@ from html import escape
 from acpidis_tools.errors import Fault, name_at
 from acpidis_tools.listing import Line, path_text
 from acpidis_tools.names import Meaning, Sort, is_name
-from acpidis_tools.page.sheet import BETWEEN, Sheet, chunk_html, classed
+from acpidis_tools.page.sheet import BETWEEN, Sheet, classed, packed
 from acpidis_tools.standard import counted
 
 # A browser's tree of elements ends at 512 levels.
@@ -102,10 +102,13 @@ class BlockWriter:
         yield from flushed()
 
     def chunk(self, lines: list[Line], deepest: int) -> str:
+        """Some lines as plain text, which can be found and printed, and what they become when they are seen."""
         uses = [html for line in lines for html in self.line_uses_html(line)]
-        html = "".join(self.folded(lines, deepest)) + BETWEEN + "".join(uses)
-        count = lines[-1].number - lines[0].number + 1
-        return chunk_html(lines[0].number, count, [text for line in lines for text in self.texts(line)], html)
+        html = packed("".join(self.folded(lines, deepest)) + BETWEEN + "".join(uses))
+        texts = [text for line in lines for text in self.texts(line)]
+        first, count = lines[0].number, lines[-1].number - lines[0].number + 1
+        head = f'<pre class=chunk style=--n:{len(texts)} data-line={first} data-count={count} data-packed="{html}">'
+        return head + escape("\n".join(texts)) + "</pre>\n"
 
     def texts(self, line: Line) -> list[str]:
         """A line as plain text, with what its numbers and bytes mean behind and below it."""

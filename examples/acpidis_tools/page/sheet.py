@@ -7,7 +7,6 @@ import base64
 import zlib
 from collections.abc import Callable, Iterator
 from dataclasses import dataclass, field
-from html import escape
 
 from acpidis_tools.comparison import Comparison
 from acpidis_tools.decoding import Decoder
@@ -117,10 +116,3 @@ def packed(html: str) -> str:
 
 def unpacked(text: str) -> str:
     return zlib.decompress(base64.b64decode(text)).decode()
-
-
-def chunk_html(first: int, count: int, texts: list[str], html: str) -> str:
-    """Some lines as plain text, which can be found and printed, and what they become when they are seen."""
-    head = f'<pre class=chunk style=--n:{len(texts)} data-line={first} data-count={count} data-packed="{packed(html)}">'
-    text = "\n".join(texts)
-    return f"{head}{escape(text)}</pre>\n"
