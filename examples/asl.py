@@ -81,8 +81,8 @@ def files_of(made):
 def head(file, is_edited):
     """The command that compiles a file, and a word on each message that it turns off."""
     off = language.OFF if is_edited else dict(sorted({**language.OFF, **language.OFF_UNCHANGED}.items()))
-    words = ["iasl", "-oa", "-of", *([] if is_edited else ["-oE"]), *(f"-vw {number}" for number in off), shlex.quote(file)]
-    yield f"// {' '.join(words)}"
+    options = ["-oa", "-of", *([] if is_edited else ["-oE"]), *(f"-vw {number}" for number in off)]
+    yield f"// {' '.join(['iasl', *options, shlex.quote(file)])}"
     yield "// iasl doesn't ask about"
     for number, what in off.items():
         yield f"//   {number} {what}"

@@ -50,17 +50,6 @@ def calls(text):
             own.add(space.place(line.scope, next(filter(None, declared.groups()))))
 
 
-def add_given(file, namespace):
-    """The counts of the user's file. What a table's External names has the External's count."""
-    for number, line in enumerate(command.read(file).decode("ascii").splitlines(), 1):
-        form = COUNT.fullmatch(line)
-        if not form or not NAME.fullmatch(form[1]):
-            raise running.Unusable(f"line {number} of {file} isn't a path and a count")
-        node = namespace.node(form[1])
-        if node.count is None:
-            node.count = int(form[2])
-
-
 def listing_of(asked):
     run = running.run([running.program(), *command.words_of(asked.options), "--", asked.folder])
     if run.refused:
@@ -71,8 +60,14 @@ def listing_of(asked):
         if form:
             node = namespace.place(line.scope, form[1])
             node.count = max(aml.SMALL[form[2]] if form[2] in aml.SMALL else int(form[2], 16), node.count or 0)
-    if "--externals" in asked.options:
-        add_given(asked.options["--externals"], namespace)
+    file = asked.options.get("--externals")
+    for number, line in enumerate(command.read(file).decode("ascii").splitlines() if file else (), 1):
+        form = COUNT.fullmatch(line)
+        if not form or not NAME.fullmatch(form[1]):
+            raise running.Unusable(f"line {number} of {file} isn't a path and a count")
+        node = namespace.node(form[1])
+        if node.count is None:  # what a table's External names has the External's count
+            node.count = int(form[2])
     return run
 
 

@@ -175,7 +175,8 @@ class Facts:
         self.lacking: list[tuple[str, str]] = []
 
     def add_code(self, code_sum: str, above: int, fault: str, rows: dict[str, list[list]]) -> None:
-        numbered = {table: shifted(rows.get(table, []), table, self.bases) for table in ("code", *OF_CODE)} if rows else {}
+        tables = ("code", *OF_CODE) if rows else ()
+        numbered = {table: shifted(rows.get(table, []), table, self.bases) for table in tables}
         for table, found in numbered.items():
             self.sink.add(table, found)
             self.bases[table] += len(found)
@@ -206,7 +207,8 @@ def machines_of(asked: argparse.Namespace) -> Iterator[Machine]:
         here = pathlib.Path(folder)
         name = here.relative_to(top)
         if "text" in files:
-            yield Machine(str(name), here / "text", here / "errors" if "errors" in files else None, dumps and dumps / name)
+            errors = here / "errors" if "errors" in files else None
+            yield Machine(str(name), here / "text", errors, dumps and dumps / name)
         elif here == top:
             for file in sorted(files):
                 yield Machine(file, here / file, None, dumps and dumps / file)

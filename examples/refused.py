@@ -32,7 +32,7 @@ DUMPED = re.compile(rb"\s*(?:RSD PTR|[A-Z0-9!_]{4}) @ 0x[0-9A-Fa-f]+\s")
 
 
 def read_words(text):
-    """The tables of refusals.txt: ways on; what each word says, with those for an SSDT and a DSDT; the same by --any-run."""
+    """The tables of refusals.txt: ways on; what each word says, with those for an SSDT and DSDT; so with --any-run."""
     named, *tables = ([line for line in part.splitlines() if not line.startswith("#")] for part in text.split("\n\n"))
     ways = dict(line.split(" ", 1) for line in named)
     ways_in = lambda cell: [ways.get(way, way) for way in cell.split("; ") if way]
@@ -43,8 +43,8 @@ def read_words(text):
 WAYS, WORDS, RAN = read_words((pathlib.Path(command.__file__).parent / "refusals.txt").read_text())
 # What is said of a byte of a table's AML.
 AT_BYTES = {
-    "ModuleCode", "Truncated", "PkgPast", "PkgBits", "BadName", "UnknownOp", "NotHere", "StrayElse", "EmptyName", "BadCount",
-    "TooDeep",
+    "ModuleCode", "Truncated", "PkgPast", "PkgBits", "BadName", "UnknownOp", "NotHere", "StrayElse", "EmptyName",
+    "BadCount", "TooDeep",
 }  # fmt: skip
 
 
@@ -96,8 +96,8 @@ def bytes_at(code, at):
 
 
 class Tables:
-    """The tables in load order, read up to where the set is refused, and where it is asked for behind that too; and what
-    they say of the refusal."""
+    """The tables in load order, read up to where the set is refused, and where it is asked for behind that too; and
+    what they say of the refusal."""
 
     def __init__(self, asked, program, refusal):
         self.refusal, self.order = refusal, load_order(program, asked.folder)
@@ -132,8 +132,8 @@ class Tables:
     def told(self, node):
         """Where a path is declared, in words."""
         places = [f"{word} at {self.place(table, at)}" for table, at, word in node.places]
-        other = "predefined" if node.is_predefined else "nowhere in the tables" if node.external is None else "an External"
-        return " and ".join(places) or other
+        other = "nowhere in the tables" if node.external is None else "an External"
+        return " and ".join(places) or ("predefined" if node.is_predefined else other)
 
     def say_code(self):
         """Of a fault with an offset."""

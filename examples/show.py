@@ -54,7 +54,8 @@ def other(sheet: Sheet, asked: tuple[str, ...]) -> str:
     last, paths = asked[0].lstrip("\\").rpartition(".")[2], [row.path for row in sheet.listing.rows]
     segments = sorted({path[-1] for path in paths if path})
     like = [path_text(path) for path in paths if path[-1:] == (last,)]
-    like = like or [it for it in segments if last.rstrip("_") in it] or difflib.get_close_matches(last, segments, MOST_LIKE)
+    like = like or [it for it in segments if last.rstrip("_") in it]
+    like = like or difflib.get_close_matches(last, segments, MOST_LIKE)
     return f"; like it: {', '.join(like[:MOST_LIKE])}" if like else ""
 
 

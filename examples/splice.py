@@ -104,7 +104,8 @@ def patched(dump, new, path, files):
     if place.word != source.word:
         raise Refused(f"{path} is a {place.word} in {files[0]!r}, and a {source.word} in {files[1]!r}")
     if place.word not in SCOPED and place.scope != source.scope:
-        raise Refused(f"{path} stands in the scope {place.scope} of {files[0]!r}, and in {source.scope} of {files[1]!r}")
+        scopes = f"{place.scope} of {files[0]!r}, and in {source.scope} of {files[1]!r}"
+        raise Refused(f"{path} stands in the scope {scopes}")
     return sealed(dump[:HEADER] + spliced(code, place, other[source.named : source.end]))
 
 

@@ -67,7 +67,8 @@ def dumped(text):
         elif row and title:
             had, more = len(tables[-1][1]), bytes.fromhex(row[2])
             if int(row[1], 16) != had:
-                raise Refused(f"line {odd or number}: a whole row of {title[1]} at {had & -WIDTH:04X} should stand there")
+                row = f"a whole row of {title[1]} at {had & -WIDTH:04X}"
+                raise Refused(f"line {odd or number}: {row} should stand there")
             tables[-1][1].extend(more)
             odd = number * (len(more) < WIDTH)  # the first line that is no whole row
         elif not line.strip("> \t\r"):

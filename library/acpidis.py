@@ -268,9 +268,9 @@ def load(
 ) -> Listing:  # fmt: skip
     """The listing of a folder of dumps, or of the bytes of dumps by their names.
 
-    The options are the program's. `externals` is the text of a file of counts, or the counts by their paths. Without `text`
-    there is none, and without `bodies` the methods have neither bodies nor faults: each takes about as long as the program.
-    Raises `Refused` where the set has no listing, and MemoryError where memory is short.
+    The options are the program's. `externals` is the text of a file of counts, or the counts by their paths. Without
+    `text` there is none, and without `bodies` the methods have neither bodies nor faults: each takes about as long as
+    the program. Raises `Refused` where the set has no listing, and MemoryError where memory is short.
     """
     with Open() as opened:
         names = filled(opened, source, externals, any_sum, any_run, unknown_zero)

@@ -67,7 +67,7 @@ class Term:
 
 
 class Node(paths.Node):
-    """A path: what declares it, each a table, an offset and a mnemonic; how many arguments it takes, if that is known."""
+    """A path: what declares it, each a table, an offset and a mnemonic; how many arguments it takes, if it is known."""
 
     __slots__ = ("places", "is_predefined", "count", "external", "given", "target")
 

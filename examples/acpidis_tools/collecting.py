@@ -34,11 +34,12 @@ HEXADECIMAL = ("Flags", "Address", "Controller", "AddressOverride", "Entry")
 UNKNOWN_RECORD = re.compile(r"Record (\d+) Length (\d+) ?(.*)")
 # The statements that are facts, each with the part that is an object, and the part that is a number.
 STATEMENTS = {
-    "Load": (0, None), "LoadTable": (None, None), "Unload": (0, None), "Notify": (0, 1), "Sleep": (None, 0), "Stall": (None, 0),
-    "Fatal": (None, 1),
+    "Load": (0, None), "LoadTable": (None, None), "Unload": (0, None), "Notify": (0, 1), "Sleep": (None, 0),
+    "Stall": (None, 0), "Fatal": (None, 1),
 }  # fmt: skip
 LONGEST_STATEMENT = 1_000
-SOURCE, SPEED = re.compile(r"(\\|\^*)([A-Z_][A-Z0-9_]{0,3}(?:\.[A-Z_][A-Z0-9_]{0,3})*)"), re.compile(r"([0-9]+) (?:Hz|baud)")
+SOURCE = re.compile(r"(\\|\^*)([A-Z_][A-Z0-9_]{0,3}(?:\.[A-Z_][A-Z0-9_]{0,3})*)")
+SPEED = re.compile(r"([0-9]+) (?:Hz|baud)")
 PINNED = ("GpioInt", "GpioIo", "PinFunction", "PinConfig", "PinGroup")
 INTERRUPTS = ("IRQ", "IRQNoFlags", "Interrupt", "GpioInt")
 CONSTANT_WORD = re.compile(r'"|0x|(?:Zero|Ones?|Revision)$')
@@ -157,10 +158,11 @@ class Collector:
             stands = "maybe" if row.is_maybe else "always"
             # What a Name has, or a method returns that does nothing else
             only = returns.get(line.number + 1) if kind == "Method" and line.end == line.number + 2 else None
-            term = self.decoder.argument(line, 1) if kind == "Name" else self.decoder.argument(only, 0) if only else None
+            source, place = (line, 1) if kind == "Name" else (only, 0)
+            term = self.decoder.argument(source, place) if source else None
             is_value = term and CONSTANT_WORD.match(term.word) and not term.arguments and term.braced is None
-            value = term.word if term and is_value else None
-            self.add_name(row.path, kind, count, None, stands, row.times, value, sums[row.path], files[line.number], line.number)
+            values = term.word if term and is_value else None, sums[row.path], files[line.number], line.number
+            self.add_name(row.path, kind, count, None, stands, row.times, *values)
             if kind == "Alias":
                 targets.append((row.path, path_of(more)))
         others = [(path, *kind.partition(" ")[::2], "predefined") for path, kind in PREDEFINED.items()]
@@ -214,10 +216,12 @@ class Collector:
             values = [None, "DataRegion", None, None, ", ".join(texts[1:]), ""]
         else:
             space, first, length = (one.number if one else None for one in (*arguments, None, None, None)[1:4])
-            values = [space, space_name(space) if space is not None else "", small(first), small(length), *(*texts, "", "")[2:4]]
+            name = space_name(space) if space is not None else ""
+            values = [space, name, small(first), small(length), *(*texts, "", "")[2:4]]
         anchor, name, path = self.declared(line)
         address = self.pci_address(line.scope) if values[0] == PCI_CONFIG else (None, None)
-        self.regions.setdefault(anchor, self.add("region", name, self.method, path, *values, *address, self.file, line.number))
+        number = self.add("region", name, self.method, path, *values, *address, self.file, line.number)
+        self.regions.setdefault(anchor, number)
         for column, term in zip(REGION_NUMBERS, arguments[2:4] if line.term != "DataRegion" else ()):
             meaning = self.decoder.meanings(line).get(term.place) if term and not term.arguments else None
             if self.row_of(meaning) and not meaning.others:
@@ -341,8 +345,8 @@ class Collector:
         for one, patches in [pair for it in templates for pair in zip(it.descriptors, it.patches)]:
             resource = self.add(
                 "resource", device, object_path, one.kind, small(one.first), small(one.last), small(one.length),
-                ", ".join(map(str, one.lines)) or None, self.controller(one.source, line.scope), *wires_of(one), one.text,
-                ", ".join(dict.fromkeys(patches)) or None, self.file, line.number,
+                ", ".join(map(str, one.lines)) or None, self.controller(one.source, line.scope), *wires_of(one),
+                one.text, ", ".join(dict.fromkeys(patches)) or None, self.file, line.number,
             )
             for pin in one.lines if one.kind in PINNED else ():
                 self.add("pin", resource, pin)

@@ -47,8 +47,8 @@ class Template(namedtuple("Template", "descriptors patches")):
 
 class Decoder:
     """`terms` keeps those of a line that was asked for last, `patches` has the fields that are made of a buffer, by the
-    anchor of its name: first bit, the bit behind the last, and the field's name. `units` are those of field lists by the
-    numbers of their lines, `returned` has the last segments of the methods that return a name, by its anchor."""
+    anchor of its name: first bit, the bit behind the last, and the field's name. `units` are those of field lists by
+    the numbers of their lines, `returned` has the last segments of the methods that return a name, by its anchor."""
 
     def __init__(self, listing: Listing, names: Names):
         self.listing, self.names = listing, names

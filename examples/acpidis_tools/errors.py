@@ -53,7 +53,7 @@ def read_errors(text: bytes, listing: Listing) -> dict[int, Fault]:
 
 
 def name_at(fault: Fault | None, code: bytes) -> str | None:
-    """The name that a raw body of these bytes waits for (docs/names.md), by its fault, and nothing where none stands there."""
+    """The name that a raw body of these bytes waits for (docs/names.md), by its fault; None where none stands there."""
     if not fault or fault.word != "UnknownName" or fault.at is None:
         return None
     try:

@@ -32,7 +32,8 @@ HEADER = re.compile(
 )
 OPCODES = (pathlib.Path(__file__).parent / "opcodes.txt").read_text()
 # With what a line of a block begins that is no name: the word of an opcode, a constant, or what stands in a field list
-TERMS = {*re.findall(r"^[0-9A-F]+ (\w+)", OPCODES, re.MULTILINE), "Raw", "Reserved", "Access", "ExtendedAccess", "Connection"}
+TERMS = {"Raw", "Reserved", "Access", "ExtendedAccess", "Connection"}
+TERMS.update(re.findall(r"^[0-9A-F]+ (\w+)", OPCODES, re.MULTILINE))
 BLOCK = re.compile(rf"DefinitionBlock \(({TEXT})\) {{")
 OF_SHELL = ("/dev/stdin", "/dev/fd/", "/dev/null", "/proc/")
 DEFINITION_BLOCKS = ('"DSDT"', '"SSDT"')

@@ -49,10 +49,10 @@ class Names:
     """The paths of a listing, and the meanings of its names.
 
     `lines` has the line at which each path is declared first, `declarations` all of them, `sure` the paths of which one
-    stands in every run, `terms` what declares each path up to the first that is sure, `externals` the first that names a
-    path where none declares it, `led` where Scopes and Aliases lead, `then` what a name that runs outside the methods meant
-    there, `meanings` the meanings of each line's names in their order, `uses` the lines from which names lead to an anchor,
-    by the method, or the scope, that they stand in, and `strays` the same of names that lead nowhere, by the name."""
+    stands in every run, `terms` what declares each path up to the first that is sure, `externals` the first that names
+    a path where none declares it, `led` where Scopes and Aliases lead, `then` what a name that runs outside the methods
+    meant there, `meanings` those of each line's names in their order, `uses` the lines from which names lead to an
+    anchor, by the method, or the scope, that they stand in, and `strays` the same of names that lead nowhere."""
 
     def __init__(self, listing: Listing, most_others: int = MOST_OTHERS):
         self.most_others = most_others

@@ -34,7 +34,8 @@ class NoForm(Exception):
 
 
 def elements(term: Term | None) -> list[Term]:
-    if term is None or term.word not in ("Package", "VarPackage") or not isinstance(term.braced, list) or None in term.braced:
+    is_package = term is not None and term.word in ("Package", "VarPackage") and isinstance(term.braced, list)
+    if not is_package or None in term.braced:
         raise NoForm
     return term.braced
 
@@ -58,7 +59,8 @@ def prt(value: Term) -> Iterator[str]:
         if index is None or number(pin) >= len(PINS):
             raise NoForm
         function = number(address) & 0xFFFF
-        device = f"device 0x{number(address) >> 16:02X}" + (f" function {function}" if function != ALL_FUNCTIONS else "")
+        of = f" function {function}" if function != ALL_FUNCTIONS else ""
+        device = f"device 0x{number(address) >> 16:02X}{of}"
         is_link = source.number is None
         to = source.word if is_link else f"interrupt {number(index)}"
         yield f"{device} INT{PINS[number(pin)]} to {to}" + (f" {number(index)}" if is_link and index.number else "")
@@ -112,7 +114,8 @@ def pld(value: Term) -> Iterator[str]:
             words.append(SHAPES[bits(74, 4)])
         if bits(79, 8) or bits(87, 8):
             words.append(f"group {bits(79, 8)} position {bits(87, 8)}")
-        words += [word for bit, word in ((95, "bay"), (96, "ejectable"), (97, "ejection by the system")) if bits(bit, 1)]
+        ejection = (95, "bay"), (96, "ejectable"), (97, "ejection by the system")
+        words += [word for bit, word in ejection if bits(bit, 1)]
         words += [f"color 0x{bits(8, 24):06X}"] if not bits(7, 1) else []
         yield ", ".join(words)
 

@@ -44,7 +44,7 @@ def refused(line, options):
 
 
 def command():
-    """The command that ACPIDIS names, else this repository's launcher, else the program, on PATH or beside the script."""
+    """The command that ACPIDIS names, else this repository's launcher, else the program on PATH or beside a script."""
     named = os.environ.get("ACPIDIS")
     if not named and LAUNCHER.is_file():
         return str(LAUNCHER)

@@ -59,7 +59,8 @@ def status_words(number: int, is_power: bool = False) -> str:
     if is_power:
         return named(WORDS["POWER"], number)
     *bits, battery = WORDS["STATUS_BITS"]
-    words = [word if number >> bit & 1 else f"not {word}" for bit, word in enumerate(bits if number & 0b1001 else bits[:1])]
+    bits_told = bits if number & 0b1001 else bits[:1]
+    words = [word if number >> bit & 1 else f"not {word}" for bit, word in enumerate(bits_told)]
     return ", ".join(words + [battery] * (number >> len(bits) & 1))
 
 

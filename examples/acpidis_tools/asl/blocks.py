@@ -7,7 +7,9 @@ from acpidis_tools import command, listing, running
 from acpidis_tools.asl import fields, language, terms
 from acpidis_tools.asl.names import Names, Scope, Use, externals
 
-TABLE = re.compile(r'Table ("[^"]*") ("[^"]*") Length \d+ Revision (\d{1,3}) Oem ("[^"]*") ("[^"]*") ([0-9A-F]{8}) Creator .*')
+TABLE = re.compile(
+    r'Table ("[^"]*") ("[^"]*") Length \d+ Revision (\d{1,3}) Oem ("[^"]*") ("[^"]*") ([0-9A-F]{8}) Creator .*'
+)
 GUARD = "If (Zero) {"
 OTHERS = "  // What else the tables declare:"
 
@@ -22,10 +24,10 @@ class Table(namedtuple("Table", "number file signature revision oem oem_table oe
 
 
 class Block:
-    """A definition block: a line for each of the listing's, from the line `first` on. `said` are the names on its lines,
-    with their counts of arguments, `methods` the heads and nodes of its methods, and `bodies` tell whether these have
-    terms. A text that is to be changed has the Externals that it needs, and is without the `guards`, the first and the
-    last line of each If that has Externals alone: iasl writes one of its own around those."""
+    """A definition block: a line for each of the listing's, from the line `first` on. `said` are the names on its
+    lines, with their counts of arguments, `methods` the heads and nodes of its methods, and `bodies` tell whether these
+    have terms. A text that is to be changed has the Externals that it needs, and is without the `guards`, the first and
+    the last line of each If that has Externals alone: iasl writes one of its own around those."""
 
     def __init__(self, table, space, is_edited=False):
         self.table, self.names, self.is_edited, self.lines = table, Names(space), is_edited, []

@@ -100,7 +100,7 @@ def serial(code):
         raise ValueError(NO_MACRO)
     parts = [
         address, ("ControllerInitiated", "DeviceInitiated")[flags & 1], int.from_bytes(code[12:16], "little"),
-        ("AddressingMode7Bit", "AddressingMode10Bit")[ten_bits], source(code[12 + length :]), code[4], USAGES[flags >> 1 & 1],
-        "", *([SHARES[flags >> 2]] if version == 2 else []), vendor(code[18 : 12 + length]),
+        ("AddressingMode7Bit", "AddressingMode10Bit")[ten_bits], source(code[12 + length :]), code[4],
+        USAGES[flags >> 1 & 1], "", *([SHARES[flags >> 2]] if version == 2 else []), vendor(code[18 : 12 + length]),
     ]  # fmt: skip
     return f"I2cSerialBus{'V2' if version == 2 else ''} ({', '.join(map(str, parts))})"

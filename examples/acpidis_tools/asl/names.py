@@ -15,7 +15,7 @@ Use = namedtuple("Use", "scope named number")
 
 class Names:
     """What a definition block declares and uses. `own` are the nodes that it declares outside the methods, `externals`
-    those of its Externals, each with the names and the numbers of their lines, and `scopes` those that a Scope opens."""
+    those of its Externals, each with the names and the numbers of their lines, `scopes` those that a Scope opens."""
 
     def __init__(self, space):
         self.space, self.own, self.externals, self.uses, self.scopes = space, set(), {}, [], set()
@@ -102,9 +102,9 @@ class Names:
 
 
 def externals(space, uses, own, said, rows):
-    """The Externals of what a text uses and doesn't declare, which have to stand in front; and of all else that the rows
-    of the listing have, so that iasl finds what is typed, and not what isn't there. `own` are the nodes that the text
-    declares itself, `said` what the Externals of the tables say of nodes."""
+    """The Externals of what a text uses and doesn't declare, which have to stand in front; and of all else that the
+    rows of the listing have, so that iasl finds what is typed, and not what isn't there. `own` are the nodes that the
+    text declares itself, `said` what the Externals of the tables say of nodes."""
     is_other = lambda node: node.above and node not in own and node.path() not in running.PREDEFINED
     counts = {}
     for use in uses:

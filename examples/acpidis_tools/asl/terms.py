@@ -12,7 +12,9 @@ from acpidis_tools.terms import terms_in
 NUMBER = re.compile(r"0x(?:[0-9A-F]{2}){1,8}")
 ESCAPE = re.compile(r"\\x([0-9A-F]{2})")
 # What ASL has as a part of other terms alone.
-ALONE = re.compile(r'0x[0-9A-F]+|".*"|(Zero|One|Ones|Revision|Debug|Local[0-7]|Arg[0-6])|(Buffer|Package|VarPackage) \(.*')
+ALONE = re.compile(
+    r'0x[0-9A-F]+|".*"|Zero|One|Ones|Revision|Debug|Local[0-7]|Arg[0-6]|(?:Buffer|Package|VarPackage) \(.*'
+)
 STORAGE = re.compile(r"Local[0-7]|Arg[0-6]")
 METHOD = re.compile(rf"Method \(({NAME.pattern}|), ([0-7]), (NotSerialized|Serialized), ([0-9]|1[0-5])\) \{{")
 EXTERNAL = re.compile(rf"External \(({NAME.pattern}|), 0x([0-9A-F]{{2}}), 0x0([0-7])\)")
@@ -26,7 +28,8 @@ def quoted(inner, tell):
     for code in ESCAPE.findall(inner):
         if code == "00" or code > "7F":
             tell("a text with bytes that aren't ASCII")
-    return '"' + ESCAPE.sub(lambda found: "\\" + chr(int(found[1], 16)) if found[1] in ("22", "5C") else found[0], inner) + '"'
+    shown = lambda found: "\\" + chr(int(found[1], 16)) if found[1] in ("22", "5C") else found[0]
+    return f'"{ESCAPE.sub(shown, inner)}"'
 
 
 def picked(words, value, what, tell):

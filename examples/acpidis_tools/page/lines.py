@@ -35,8 +35,8 @@ class BlockWriter:
         self.changed = sheet.comparison.lines if sheet.comparison else set()
 
     def write(self) -> Iterator[str]:
-        """The blocks, and the uses of what they declare, in the order of the text; in a packed page each chunk has those
-        of its lines, and these are the others."""
+        """The blocks, and the uses of what they declare, in the order of the text; in a packed page each chunk has
+        those of its lines, and these are the others."""
         for block in self.sheet.listing.blocks:
             lines = [line for line in block.lines if self.sheet.shows(line.number)]
             if lines:
@@ -186,10 +186,11 @@ class BlockWriter:
     def said_of(self, line: Line) -> tuple[list[str], list[str]]:
         """What is said behind a line, and in rows below it."""
         templates = [template.texts() or ["no resources"] for template in self.sheet.decoder.templates(line)]
-        return self.sheet.decoder.notes(line), [text for texts in (*templates, self.sheet.decoder.rows(line)) for text in texts]
+        rows = [text for texts in (*templates, self.sheet.decoder.rows(line)) for text in texts]
+        return self.sheet.decoder.notes(line), rows
 
     def next_notes(self) -> Iterator[tuple[int, str]]:
-        """For each declaration of a path that is declared several times, by its line's number, the link to the next one."""
+        """For each declaration of a path that has several, by its line's number, the link to the next one."""
         for lines in self.sheet.names.declarations.values():
             if len(lines) > 1:
                 for place, line in enumerate(lines, 1):

@@ -109,7 +109,8 @@ def table_changes_html(sheet: Sheet) -> list[str]:
     for file, lines in tables.items():
         name = escape(file[1:-1])
         head = f"<a href=#{numbers[file]}>{name}</a>" if file in numbers else f"{name}, here not"
-        shown = f"<pre>{escape(chr(10).join(lines))}</pre>" if lines else " isn't there" if lines is None else " lacks lines"
+        shown = " isn't there" if lines is None else " lacks lines"
+        shown = f"<pre>{escape(chr(10).join(lines))}</pre>" if lines else shown
         items.append(f"<li class=changed>{head}{shown}</li>\n")
     return [*folded_list(f"{counted(len(items), 'table')} that it has otherwise", items, True), "\n"]
 
@@ -136,8 +137,8 @@ def comparison_html(sheet: Sheet) -> list[str]:
         changes.append(f"<li class=changed>{head}<pre>{shown}</pre></details></li>\n")
     written = [f"<section id=comparison><h2>Beside {escape(found.other)}</h2>\n", *table_changes_html(sheet)]
     ours, theirs = escape(sheet.name), escape(found.other)
-    kinds = ((adds, f"{theirs} alone has"), (lacks, f"{ours} alone has"), (changes, f"{theirs} has otherwise than {ours}"))
-    for items, word in kinds:
+    kinds = {f"{theirs} alone has": adds, f"{ours} alone has": lacks, f"{theirs} has otherwise than {ours}": changes}
+    for word, items in kinds.items():
         written += [*folded_list(f"{counted(len(items), 'path')} that {word}", items, len(items) <= MOST_OPEN), "\n"]
     return [*written, "</section>\n"]
 
@@ -172,7 +173,8 @@ def navigation_html(sheet: Sheet, tree: TreeWriter) -> list[str]:
     oem = title_of(listing)
     shown_oem = f"<p class=oem>{escape(oem)}</p>" if oem and sheet.name else ""
     return [
-        f"<nav aria-label=Namespace>\n<header>\n<h1>{escape(sheet.name or oem or 'ACPI tables')}</h1>\n{shown_oem}{part}\n",
+        f"<nav aria-label=Namespace>\n<header>\n<h1>{escape(sheet.name or oem or 'ACPI tables')}</h1>\n",
+        f"{shown_oem}{part}\n",
         '<input id=find type=search aria-label="Find a path, an identifier or a kind"'
         " autocomplete=off spellcheck=false hidden>\n",
         f"</header>\n<p class=kinds>{kinds}</p>\n<div id=found hidden></div>\n<div id=tree>\n",

@@ -72,7 +72,8 @@ class Sheet:
         else:
             lines = {it.number for block in self.listing.blocks if block.file == f'"{wanted}"' for it in block.lines}
         if not lines:
-            raise NoListing(f"nothing in it is {wanted[:80]}: --only takes a path like \\_SB_.PCI0 or a file like dsdt.dat")
+            ways = "a path like \\_SB_.PCI0 or a file like dsdt.dat"
+            raise NoListing(f"nothing in it is {wanted[:80]}: --only takes {ways}")
         self.shown, self.is_packed = lines, len(lines) > LONG_TEXT // 40
         self.paths = {path for path, line in self.names.lines.items() if line.number in lines}
 
