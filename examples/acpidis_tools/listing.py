@@ -14,9 +14,10 @@ from typing import BinaryIO
 SEGMENT = r"[A-Z_][A-Z0-9_]{3}"
 NAME = re.compile(rf"(?:\\|\^+)?{SEGMENT}(?:\.{SEGMENT})*(?!\w)|\\|\^+")
 TEXT = r'"[^"]*"'
-# A name has no small letter, and the word of each opcode has one.
-WORD = re.compile(rf"({TEXT}|0x[0-9A-F]+|{NAME.pattern}|[A-Z](?=[A-Z]{{0,30}}[a-z])[A-Za-z]{{1,30}}[0-9]?)")
-BETWEEN = re.compile(r"[ (){},0-9A-F]*")
+# A name has no small letter, and the word of each opcode has one. To look at the first sign of each saves time.
+OPCODE = r"[A-Z](?=[A-Z]{0,30}[a-z])[A-Za-z]{1,30}[0-9]?"
+WORD = re.compile(rf'(?=["0A-Z_\\^])({TEXT}|0x[0-9A-F]+|{NAME.pattern}|{OPCODE})')
+BETWEEN = " (){},0123456789ABCDEF"
 PATH = rf"\\(?:{SEGMENT}(?:\.{SEGMENT})*)?"
 # With --any-run a row may have two marks: what only may stand, and what is declared several times.
 ROW = re.compile(rf"  ({PATH}) ([A-Z][A-Za-z]+(?: [0-7]| {PATH})?)( Maybe)?(?: Times ([1-9][0-9]{{0,8}}))?")
@@ -62,16 +63,17 @@ def path_text(path: Path) -> str:
 
 class Line:
     """A line of a definition block: every second of its pieces is a word. It may open a block, up to the line `end`,
-    and stands in that of the line `above`.
+    and stands in that of the line `above`. `term` is the opcode's word or the name that it begins with, and nothing for
+    the end of a block.
 
     `scope` is where its names are read, `method` the path of the method in whose body it stands, `declared` the place
     among its words of the name that it declares."""
 
-    __slots__ = ("number", "depth", "pieces", "above", "end", "scope", "method", "declared")
+    __slots__ = ("number", "depth", "pieces", "above", "term", "end", "scope", "method", "declared")
 
     def __init__(self, number: int, depth: int, pieces: list[str], above: Line | None):
         self.number, self.depth, self.pieces, self.above = number, depth, pieces, above
-        self.end = 0
+        self.term, self.end = pieces[1] if len(pieces) > 1 else "", 0
         self.scope: Path = ROOT
         self.method: Path | None = None
         self.declared: int | None = None
@@ -79,11 +81,6 @@ class Line:
     @property
     def words(self) -> list[str]:
         return self.pieces[1::2]
-
-    @property
-    def term(self) -> str:
-        """The opcode's word or the name that the line begins with, and nothing for the end of a block."""
-        return self.pieces[1] if len(self.pieces) > 1 else ""
 
     @property
     def heads(self) -> list[Line]:
@@ -194,12 +191,12 @@ class Reader:
         text = self.peek()
         bare = text.lstrip(" ")
         depth = above.depth + (bare != "}") if above else 0
-        pieces = WORD.split(bare)
+        pieces = WORD.split(bare) if bare != "}" else ["}"]
         is_wrong = len(text) - len(bare) != 2 * depth or len(pieces) == 1 and bare != "}"
         is_wrong = is_wrong or bare.startswith("Raw") and not RAW.fullmatch(bare)
         # A name has no small letter.
         is_wrong = is_wrong or depth and bare[0].isupper() and bare[1].islower() and pieces[1] not in TERMS
-        if is_wrong or not BETWEEN.fullmatch("".join(pieces[::2])):
+        if is_wrong or "".join(pieces[::2]).strip(BETWEEN):
             raise self.refuse()
         self.at += 1
         return Line(self.at, depth, pieces, above)
