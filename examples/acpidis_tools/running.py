@@ -8,7 +8,7 @@ import subprocess
 from collections import namedtuple
 
 from acpidis_tools import aml, paths, standard
-from acpidis_tools.errors import Fault, FAULT
+from acpidis_tools.errors import FAULT, Fault
 from acpidis_tools.listing import NAME, NoListing, read_listing
 
 LAUNCHER = pathlib.Path(__file__).resolve().parents[2] / "acpidis"
