@@ -26,7 +26,7 @@ from collections import namedtuple
 
 from acpidis_tools import command
 from acpidis_tools.asl import forms, language
-from acpidis_tools.asl.blocks import Block, MethodBlock, Reader
+from acpidis_tools.asl.blocks import Block, Reader
 from acpidis_tools.asl.names import said_by
 from acpidis_tools.listing import NoListing
 
@@ -41,12 +41,11 @@ Made = namedtuple("Made", "table lines told")
 
 def of_listing(asked):
     """The blocks of the listing, and the texts that are to be written."""
-    reader = Reader(
-        lambda table, space: MethodBlock(table, space, asked.method) if asked.method else Block(table, space, asked.edit)
-    )
+    reader = Reader(lambda table, space: Block(table, space, asked.edit))
     reader.read(asked.listing)
-    found = [method for block in reader.blocks for method in block.found] if asked.method else reader.blocks
+    found = reader.blocks
     if asked.method:
+        found = [method for block in reader.blocks for method in block.methods_at(asked.method)]
         check_method(asked.method, found, reader.rows)
     rows = reader.rows if len(reader.rows) * len(found) <= MOST_EXTERNALS else []
     said = said_by(reader.blocks)
@@ -60,10 +59,10 @@ def check_method(path, found, rows):
         where = f": name it from the root, as {ends[0]}; acpidis-show has all that end so" if ends else ""
         raise NoListing(f"it declares no method {path}{where}")
     if len(found) > 1:
-        lines = ", ".join(str(method.number) for method in found)
+        lines = ", ".join(str(method.line.number) for method in found)
         raise NoListing(f"it declares {path} on the lines {lines}: change the table as a whole, with --edit")
     if not found[0].has_terms:
-        raise NoListing(f"line {found[0].number}: the body of {path} is raw: it has no terms to be changed")
+        raise NoListing(f"line {found[0].line.number}: the body of {path} is raw: it has no terms to be changed")
 
 
 def files_of(made):
@@ -82,8 +81,8 @@ def files_of(made):
 def head(file, is_edited):
     """The command that compiles a file, and a word on each message that it turns off."""
     off = language.OFF if is_edited else dict(sorted({**language.OFF, **language.OFF_UNCHANGED}.items()))
-    words = ["iasl", "-oa", "-of", *([] if is_edited else ["-oE"]), *(f"-vw {number}" for number in off), shlex.quote(file)]
-    yield f"// {' '.join(words)}"
+    options = ["-oa", "-of", *([] if is_edited else ["-oE"]), *(f"-vw {number}" for number in off)]
+    yield f"// {' '.join(['iasl', *options, shlex.quote(file)])}"
     yield "// iasl doesn't ask about"
     for number, what in off.items():
         yield f"//   {number} {what}"

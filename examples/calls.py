@@ -18,14 +18,14 @@ import re
 import sys
 
 from acpidis_tools import aml, command, running
-from acpidis_tools.listing import WORD
+from acpidis_tools.listing import NAME
 from acpidis_tools.terms import places, terms_in
 
 SHOWN = 100
 # The operators that may take a method, and none of its values.
 OF_METHODS = ("CondRefOf", "ObjectType", "RefOf")
 COUNT = re.compile(r"(\\\S*) ([0-7])")
-EXTERNAL = re.compile(rf"External \(({running.NAME.pattern}), \S+, (Zero|One|0x0[0-7])\)")
+EXTERNAL = re.compile(rf"External \(({NAME.pattern}), \S+, (Zero|One|0x0[0-7])\)")
 # The name that a term of a body declares, a field's unit among them.
 DECLARED = re.compile(
     r"(?:Name|Mutex|Event|OperationRegion|DataRegion) \(([^\s,)]+)|(?:Create\w*Field|Alias) \(.*, ([^\s,)]+)\)"
@@ -35,31 +35,19 @@ DECLARED = re.compile(
 
 def calls(text):
     """The method or scope, the name, its count, the operator and the line of each such name."""
-    own, own_of = set(), None
-    following = [*text.lines[1:], ("", text.namespace.root, None)]
-    for (line, scope, method), (behind, scope_behind, _) in zip(text.lines, following):
-        if method is not own_of:
-            own, own_of = set(), method
+    own, own_of, space = set(), None, text.namespace
+    for line, behind in zip(text.lines, [*text.lines[1:], None]):
+        if line.method is not own_of:
+            own, own_of = set(), line.method
         # The names that stand as targets or objects
-        found = [it for it in places(terms_in(WORD.split(line))) if running.NAME.fullmatch(it[0].word)]
+        found = [it for it in places(terms_in(line.pieces)) if NAME.fullmatch(it[0].word)]
         for operator, name in ((place.within.word, term.word) for term, place in found if place.kind == "S"):
-            counts = [kind for kind in text.namespace.may_be(scope, name, own) if isinstance(kind, int)]
-            if any(counts) and (operator not in OF_METHODS or running.is_lone(behind, scope_behind, text.namespace)):
-                yield scope.path(), name, max(counts), operator, line
-        declared = DECLARED.match(line) if method else None
+            counts = [kind for kind in space.may_be(line.scope, name, own) if isinstance(kind, int)]
+            if any(counts) and (operator not in OF_METHODS or behind and running.is_lone(behind, space)):
+                yield line.scope.path(), name, max(counts), operator, line.bare
+        declared = DECLARED.match(line.bare) if line.method else None
         if declared:
-            own.add(text.namespace.place(scope, next(filter(None, declared.groups()))))
-
-
-def add_given(file, namespace):
-    """The counts of the user's file. What a table's External names has the External's count."""
-    for number, line in enumerate(command.read(file).decode("ascii").splitlines(), 1):
-        form = COUNT.fullmatch(line)
-        if not form or not running.NAME.fullmatch(form[1]):
-            raise running.Unusable(f"line {number} of {file} isn't a path and a count")
-        node = namespace.node(form[1])
-        if node.count is None:
-            node.count = int(form[2])
+            own.add(space.place(line.scope, next(filter(None, declared.groups()))))
 
 
 def listing_of(asked):
@@ -67,23 +55,29 @@ def listing_of(asked):
     if run.refused:
         raise running.refused(run.refused, asked.options)
     namespace = run.listing.namespace
-    for line, scope, _ in run.listing.lines:
-        form = EXTERNAL.fullmatch(line)
+    for line in run.listing.lines:
+        form = EXTERNAL.fullmatch(line.bare)
         if form:
-            node = namespace.place(scope, form[1])
-            node.count = max(aml.SMALL[form[4]] if form[4] in aml.SMALL else int(form[4], 16), node.count or 0)
-    if "--externals" in asked.options:
-        add_given(asked.options["--externals"], namespace)
+            node = namespace.place(line.scope, form[1])
+            node.count = max(aml.SMALL[form[2]] if form[2] in aml.SMALL else int(form[2], 16), node.count or 0)
+    file = asked.options.get("--externals")
+    for number, line in enumerate(command.read(file).decode("ascii").splitlines() if file else (), 1):
+        form = COUNT.fullmatch(line)
+        if not form or not NAME.fullmatch(form[1]):
+            raise running.Unusable(f"line {number} of {file} isn't a path and a count")
+        node = namespace.node(form[1])
+        if node.count is None:  # what a table's External names has the External's count
+            node.count = int(form[2])
     return run
 
 
 def main():
-    run = listing_of(command.parse(command.folder_parser(__doc__)))
+    run = listing_of(command.parse(command.parser(__doc__, "FOLDER", usage="%(prog)s [OPTION..] FOLDER")))
     found = list(calls(run.listing))
     for scope, name, count, operator, line in found:
         print(f"{scope}: {name} takes {count}, in {operator}: {line[:SHOWN]}")
-    if run.faults:
-        bodies = "1 raw body isn't" if len(run.faults) == 1 else f"{len(run.faults)} raw bodies aren't"
+    if run.raw:
+        bodies = "1 raw body isn't" if len(run.raw) == 1 else f"{len(run.raw)} raw bodies aren't"
         command.tell(f"{bodies} looked through")
     sys.exit(3 if found else 0)
 

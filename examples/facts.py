@@ -18,7 +18,6 @@ and 2 a command line, a file or an output that is at fault: with both, older fac
 from __future__ import annotations
 
 import argparse
-import concurrent.futures
 import contextlib
 import hashlib
 import json
@@ -30,12 +29,13 @@ import sys
 import tempfile
 from collections import deque
 from collections.abc import Callable, Iterator
-from concurrent.futures.process import BrokenProcessPool
+from concurrent.futures.process import BrokenProcessPool, ProcessPoolExecutor
+from functools import partial
 
 from acpidis_tools import command
 from acpidis_tools.collecting import Collector, record_rows, table_rows
-from acpidis_tools.errors import Fault, read_errors
-from acpidis_tools.listing import Listing, NoListing, file_name, read_dumps, read_file, read_listing
+from acpidis_tools.errors import read_errors
+from acpidis_tools.listing import NoListing, file_name, read_dumps, read_file, read_listing
 from acpidis_tools.names import Names
 from acpidis_tools.schema import COLUMNS, INDEXES, OF_CODE, SCHEMA, shifted
 
@@ -55,7 +55,7 @@ class Machine:
     """A machine: its name, its listing, its standard error and the folder of its dumps."""
 
     def __init__(self, name: str, text: pathlib.Path, errors: pathlib.Path | None, dumps: pathlib.Path | None):
-        self.name, self.files, self.dumps = printable(name), (text, errors), dumps
+        self.name, self.files = printable(name), (text, errors)
         self.fault, self.text, self.errors, self.tables, self.records, self.above = "", b"", b"", [], [], None
         try:
             self.text, self.errors = self.read()
@@ -66,7 +66,7 @@ class Machine:
                 raise NoListing(f"it has more than {MOST_LINES:,} lines")
             found, files, self.above = read_dumps(self.text)
             # The sums of the dumps by the names of files as the listing has them
-            there = [(dump.file, file_of(self.dumps, dump.file)) for dump in found] if self.dumps else []
+            there = [(dump.file, file_of(dumps, dump.file)) for dump in found] if dumps else []
             sums = {name: hashlib.sha256(file.read_bytes()).hexdigest() for name, file in there if file}
             self.tables, self.records = table_rows(found, files, sums), record_rows(found)
         except (NoListing, OSError) as fault:
@@ -108,22 +108,16 @@ def sum_of(text: bytes, errors: bytes) -> str:
     return hashlib.sha256((text[form.start():] if form else text) + b"\0" + errors).hexdigest()[:32]
 
 
-def faults_in(errors: bytes, listing: Listing) -> dict[int, Fault]:
-    try:
-        return read_errors(errors, listing) if errors else {}
-    except NoListing as fault:
-        raise NoListing(f"its errors aren't those of this listing: {fault}") from fault
-
-
 def facts_of(text: bytes, errors: bytes) -> tuple[str, dict[str, list[list]]]:
     """The rows of a listing's code by their tables; or why it has none, and no rows. Made in a process of its own."""
+    what = ""
     try:
         listing = read_listing(text)
-        names = Names(listing, ALL_OTHERS)
-        faults = faults_in(errors, listing)
-        rows = Collector(listing, names, faults).collect()
+        names, what = Names(listing, ALL_OTHERS), "its errors aren't those of this listing: "
+        faults = read_errors(errors, listing) if errors else {}
     except NoListing as fault:
-        return said(fault), {}
+        return f"{what}{fault}"[:LONGEST_FAULT], {}
+    rows = Collector(listing, names, faults).collect()
     rows["code"] = [[1, sum_of(text, errors), listing.line_count - listing.above]]
     return "", dict(rows)
 
@@ -170,9 +164,9 @@ class Lines:
 
 
 class Facts:
-    """Numbers the rows of all machines, and hands them on. Code that machines share is kept once, with the lines of the first
-    one's text: `codes` has its row, or why there is none, and how many lines stand above it there, by its sum. `lacking` are
-    the machines without facts, each with its fault."""
+    """Numbers the rows of all machines, and hands them on. Code that machines share is kept once, with the lines of the
+    first one's text: `codes` has its row, or why there is none, and how many lines stand above it there, by its sum.
+    `lacking` are the machines without facts, each with its fault."""
 
     def __init__(self, sink: Database | Lines):
         self.sink = sink
@@ -181,7 +175,8 @@ class Facts:
         self.lacking: list[tuple[str, str]] = []
 
     def add_code(self, code_sum: str, above: int, fault: str, rows: dict[str, list[list]]) -> None:
-        numbered = {table: shifted(rows.get(table, []), table, self.bases) for table in ("code", *OF_CODE)} if rows else {}
+        tables = ("code", *OF_CODE) if rows else ()
+        numbered = {table: shifted(rows.get(table, []), table, self.bases) for table in tables}
         for table, found in numbered.items():
             self.sink.add(table, found)
             self.bases[table] += len(found)
@@ -212,7 +207,8 @@ def machines_of(asked: argparse.Namespace) -> Iterator[Machine]:
         here = pathlib.Path(folder)
         name = here.relative_to(top)
         if "text" in files:
-            yield Machine(str(name), here / "text", here / "errors" if "errors" in files else None, dumps and dumps / name)
+            errors = here / "errors" if "errors" in files else None
+            yield Machine(str(name), here / "text", errors, dumps and dumps / name)
         elif here == top:
             for file in sorted(files):
                 yield Machine(file, here / file, None, dumps and dumps / file)
@@ -223,59 +219,53 @@ class Processes:
     place."""
 
     def __init__(self, jobs: int):
-        self.jobs, self.pool = jobs, concurrent.futures.ProcessPoolExecutor(jobs)
+        self.jobs, self.pool = jobs, ProcessPoolExecutor(jobs)
 
-    def submit(self, make: Callable, *words: object) -> concurrent.futures.Future:
+    def submit(self, *words: bytes) -> Callable:
+        """What gives the facts of a listing, once they are there."""
         if self.jobs == 1:
-            future: concurrent.futures.Future = concurrent.futures.Future()
-            try:
-                future.set_result(make(*words))
-            except MemoryError as fault:
-                future.set_exception(fault)
-            return future
+            return partial(facts_of, *words)
         try:
-            return self.pool.submit(make, *words)
+            return self.pool.submit(facts_of, *words).result
         except BrokenProcessPool:
             self.pool.shutdown()
-            self.pool = concurrent.futures.ProcessPoolExecutor(self.jobs)
-            return self.pool.submit(make, *words)
+            self.pool = ProcessPoolExecutor(self.jobs)
+            return self.pool.submit(facts_of, *words).result
 
 
 def add_all(facts: Facts, machines: Iterator[Machine], jobs: int) -> None:
     """Adds the facts of all machines in their order."""
     progress, processes = command.Progress("machine"), Processes(jobs)
     waiting: deque = deque()
-    seen: set[str] = set()
+    seen = {""}
 
     def add_but(last: int) -> None:
         while len(waiting) > last:
-            machine, code_sum, future = waiting.popleft()
-            if future:
-                facts.add_code(code_sum, machine.above, *outcome(machine, future))
+            machine, code_sum, result = waiting.popleft()
+            if result:
+                facts.add_code(code_sum, machine.above, *outcome(machine, result))
             facts.add_machine(machine, code_sum)
             progress.step()
 
     for machine in machines:
         code_sum = "" if machine.fault else sum_of(machine.text, machine.errors)
-        future = None
-        if code_sum and code_sum not in seen:
-            seen.add(code_sum)
-            future = processes.submit(facts_of, machine.text, machine.errors)
+        result = None if code_sum in seen else processes.submit(machine.text, machine.errors)
+        seen.add(code_sum)
         machine.text = machine.errors = b""
-        waiting.append((machine, code_sum, future))
-        add_but(WAITING * jobs)
+        waiting.append((machine, code_sum, result))
+        add_but(WAITING * jobs if jobs > 1 else 0)
     add_but(0)
     processes.pool.shutdown()
     progress.end()
 
 
-def outcome(machine: Machine, future: concurrent.futures.Future) -> tuple[str, dict[str, list[list]]]:
-    """What comes of a machine's listing. Where a process was ended, which may have read another one's, this is read again
-    by a process of its own."""
+def outcome(machine: Machine, result: Callable) -> tuple[str, dict[str, list[list]]]:
+    """What comes of a machine's listing. Where a process was ended, which may have read another one's, this is read
+    again by a process of its own."""
     try:
         with contextlib.suppress(BrokenProcessPool):
-            return future.result()
-        with concurrent.futures.ProcessPoolExecutor(1) as pool:
+            return result()
+        with ProcessPoolExecutor(1) as pool:
             return pool.submit(facts_of, *machine.read()).result()
     except BrokenProcessPool:
         return ENDED, {}

@@ -14,62 +14,50 @@ already. ACPIDIS names another program. Status 1 is a folder that is refused, 2 
 fault.
 """
 
-import collections
-import concurrent.futures
 import itertools
 import re
 import sys
 import tempfile
+from collections import defaultdict
+from concurrent.futures import ThreadPoolExecutor
+from functools import partial
 
-from acpidis_tools import aml, command, running
-from acpidis_tools.errors import name_in
+from acpidis_tools import command, listing, running
+from acpidis_tools.errors import name_at
+from acpidis_tools.listing import path_of, path_text
+from acpidis_tools.paths import Name
 
 COUNTS = range(8)
 MOST_NAMES = 1000
 MOST_PASSES = 3
 MOST_RUNS = 1000
-SEGMENT = re.compile(running.SEGMENT)
-ANYWHERE = re.compile(rf"(?=({running.SEGMENT}))".encode())
+SEGMENT = re.compile(listing.SEGMENT)
+ANYWHERE = re.compile(rf"(?=({listing.SEGMENT}))".encode())
 OUTSIDE = re.compile(r'table "[^"]*": ModuleCall (\\\S+)')
 
 
-class Body:
-    """A raw body: its method's number in the text and its path, the word of its fault, its offset, its bytes."""
-
-    def __init__(self, number, path, fault, raw):
-        self.number, self.path, self.fault, self.raw = number, path, fault, raw
-        self.word, _, at = fault.partition(" at ")
-        self.at = int(at) if at.isdigit() else 0
-
-    def name(self):
-        """The path of the name at the fault, as a line for --externals wants it; None where it leads above the root."""
-        name = name_in(self.raw[self.at :])
-        if name is None:
-            what = f"no name stands at {self.at} of a body that wants one: is this another version of acpidis?"
-            raise running.Unusable(what)
-        space = aml.Space(0)
-        place = space.given_place(space.node(self.path), name)
-        return place and place.path()
-
-
-def bodies_of(run):
-    """The raw bodies of a run: each line of standard error belongs to the next raw body of the text."""
-    raws = [(number, method.raw) for number, method in enumerate(run.listing.methods) if method.raw is not None]
-    return [Body(number, path, fault, raw) for (number, raw), (path, fault) in zip(raws, run.faults)]
+def name_of(body):
+    """The path of the name that a raw body waits for, for a line of --externals; None where it leads above the root."""
+    text, at = name_at(body.fault, body.raw), body.fault.at or 0
+    if text is None:
+        raise running.Unusable(f"no name stands at {at} of a body that wants one: is this another version of acpidis?")
+    name = Name.of(text)
+    place = name.segments if name.is_searched else name.placed(path_of(body.node.path()))
+    return None if place is None else path_text(place)
 
 
 class Trial:
     """What comes of the bodies that wait for a name, where it has a count, or of what stands outside the methods, where
     the set is refused for the name."""
 
-    def __init__(self, run, raw, bodies):
-        self.refused, self.faults, values = run.refused, [], []
-        if not run.refused:
-            self.faults = [raw[body.number].fault for body in bodies if body.number in raw]
-            read = [run.listing.methods[body.number] for body in bodies if body.number not in raw]
-            values = [it.lone_values(run.listing.namespace) for it in read] if bodies else [run.listing.lone_values()]
-        # What is read, without and with values that stand alone, and how many these are
-        self.read, self.loose, self.values = values.count(0), len(values) - values.count(0), sum(values)
+    def __init__(self, run, bodies):
+        now = [] if run.refused else [run.listing.methods[body.number] for body in bodies]
+        self.refused, self.faults = run.refused, [body.fault for body in now if body.fault]
+        read = [body.lines for body in now if not body.fault] if bodies or run.refused else [None]
+        values = [run.listing.lone_values(lines) for lines in read]
+        # What is read, without and with values that stand alone
+        self.read, self.loose = values.count(0), len(values) - values.count(0)
+        self.rank = bool(run.refused), len(self.faults), sum(values)
 
 
 class Search:
@@ -88,59 +76,59 @@ class Search:
     def run(self, counts, more=()):
         self.progress.step()
         if self.progress.done > MOST_RUNS:
-            raise running.Unusable(
-                f"more than {MOST_RUNS} runs are wanted: the {len(self.counts)} names that are met so far stand in the same"
-                " bodies; give what you know by --externals"
-            )
+            met = f"the {len(self.counts)} names that are met so far stand in the same bodies"
+            raise running.Unusable(f"more than {MOST_RUNS} runs are wanted: {met}; give what you know by --externals")
         with tempfile.NamedTemporaryFile("w", prefix="counts") as file:
             file.write(self.given)
             file.writelines(f"{path} {count}\n" for path, count in counts.items())
             file.flush()
             return running.run([self.program, *self.options, *more, "--externals", file.name, "--", self.folder])
 
-    def trials(self, names, more=()):
-        """What comes of each count of some names, with the others as they are: eight trials for each name."""
-        with concurrent.futures.ThreadPoolExecutor(4) as pool:
-            of_counts = list(pool.map(lambda count: self.outcomes(names, count, more), COUNTS))
-        return {name: [found[name] for found in of_counts] for name in names}
+    def fit(self, names, more=()):
+        """Keeps of each name the count that fits best beside the others, and answers the trials of its counts."""
+        all_trials = {}
+        for group in self.apart(names):
+            with ThreadPoolExecutor(4) as pool:
+                of_counts = list(pool.map(partial(self.outcomes, group, more), COUNTS))
+            for name in group:
+                trials, before = [found[name] for found in of_counts], self.counts.get(name, 0)
+                self.counts[name] = min(COUNTS, key=lambda count: (*trials[count].rank, count != before))
+                all_trials[name] = trials
+        return all_trials
 
-    def outcomes(self, names, count, more):
-        """What comes of each name where all of them have this count. A set that is refused for one is tried in halves."""
+    def outcomes(self, names, more, count):
+        """What comes of each name where all have this count. A set that is refused for one is tried in halves."""
         run = self.run({**self.counts, **dict.fromkeys(names, count)}, more)
         if run.refused and len(names) > 1:
             half = len(names) // 2
-            return {**self.outcomes(names[:half], count, more), **self.outcomes(names[half:], count, more)}
-        raw = {} if run.refused else {body.number: body for body in bodies_of(run)}
-        return {name: Trial(run, raw, self.waiting[name]) for name in names}
+            return {**self.outcomes(names[:half], more, count), **self.outcomes(names[half:], more, count)}
+        return {name: Trial(run, self.waiting[name]) for name in names}
 
     def go(self):
         """Goes round until no body waits, and answers the bodies that are raw all the same."""
         while True:
             run = self.run(self.counts)
-            bodies = [] if run.refused else bodies_of(run)
             outside = OUTSIDE.fullmatch(run.refused or "")
             # For a name outside the methods, for which the set is refused, no body waits.
-            found = {outside[1]: []} if outside and outside[1] not in self.counts else self.found_in(bodies)
+            found = {outside[1]: []} if outside and outside[1] not in self.counts else self.found_in(run.raw)
             if run.refused and not found:
                 raise running.refused(run.refused, self.options)
             if not found:
-                return bodies
+                return run.raw
             if len(self.counts) + len(found) > MOST_NAMES:
                 raise running.Unusable(f"more than {MOST_NAMES} names are missing: a table is, more likely")
             if not run.refused and "--any-run" in self.options:
-                outside = [line for line, _, method in run.listing.lines if method is None]
-                self.outside = {segment for line in outside for segment in SEGMENT.findall(line)}
+                outside = [line for line in run.listing.lines if line.method is None]
+                self.outside = {segment for line in outside for segment in SEGMENT.findall(line.bare)}
             self.waiting.update(found)
             self.rounds.append(sorted(found, key=lambda name: -len(found[name])))
-            for names in self.apart(self.rounds[-1]):
-                # What stands behind may be unknown still, and is taken to have no arguments meanwhile.
-                for name, trials in self.trials(names, ["--unknown-zero"]).items():
-                    self.choose(name, trials)
+            # What stands behind may be unknown still, and is taken to have no arguments meanwhile.
+            self.fit(self.rounds[-1], ["--unknown-zero"])
 
     def apart(self, names):
         """The names in groups, none of which has two that a body has both of."""
         # The numbers of the waiting bodies by each segment that may stand in them, at whatever byte
-        bodies_with = collections.defaultdict(set)
+        bodies_with = defaultdict(set)
         for body in itertools.chain.from_iterable(self.waiting.values()):
             for segment in ANYWHERE.findall(body.raw):
                 bodies_with[segment].add(body.number)
@@ -152,39 +140,28 @@ class Search:
             if not self.waiting[name] or segment in self.outside:
                 alone.append([name])  # its count may change how the tables themselves are read
                 continue
-            group = next((it for it in groups if it[1].isdisjoint(bodies)), None)
-            if group is None:
-                group = [], set()
-                groups.append(group)
-            group[0].append(name)
-            group[1].update(bodies)
+            fitting = next((it for it in groups if it[1].isdisjoint(bodies)), None)
+            if fitting:
+                fitting[0].append(name)
+                fitting[1].update(bodies)
+            else:
+                groups.append(([name], bodies))
         return alone + [names for names, _ in groups]
 
     def found_in(self, bodies):
-        found = collections.defaultdict(list)
+        found = defaultdict(list)
         for body in bodies:
-            name = body.name() if body.word == "UnknownName" else None
+            name = name_of(body) if body.fault.word == "UnknownName" else None
             if name and name not in self.counts:
                 found[name].append(body)
         return found
 
-    def choose(self, name, trials):
-        """Keeps the count that fits best, and says whether it is another one."""
-        before = self.counts.get(name, 0)
-        rank = lambda it: (bool(it.refused), len(it.faults), it.values)
-        self.counts[name] = min(COUNTS, key=lambda count: (*rank(trials[count]), count != before))
-        return self.counts[name] != before
-
     def settle(self):
         """The trials of each name beside the best counts of the others."""
-        groups = self.apart(list(self.counts))
         for _ in range(MOST_PASSES):
-            trials, changed = {}, False
-            for names in groups:
-                found = self.trials(names)
-                trials.update(found)
-                changed |= any([self.choose(name, found[name]) for name in names])
-            if not changed:
+            before = self.counts.copy()
+            trials = self.fit(list(before))
+            if self.counts == before:
                 break
         return trials
 
@@ -219,8 +196,8 @@ def say(text):
 
 def report(name, bodies, trials):
     waiting = "1 body waits" if len(bodies) == 1 else f"{len(bodies)} bodies wait"
-    first = f"{waiting}, the first {bodies[0].path} at {bodies[0].at}" if bodies else "it stands outside the methods"
-    say(f"{name}: {first}")
+    first = f"{waiting}, the first {bodies[0].node.path()} at {bodies[0].fault.at or 0}" if bodies else ""
+    say(f"{name}: {first or 'it stands outside the methods'}")
     said = {}
     for count in COUNTS:
         said.setdefault(outcome(trials[count], not bodies), []).append(count)
@@ -250,7 +227,7 @@ def show(search, all_trials, must_be_one):
 
 
 def main():
-    words = command.folder_parser(__doc__, "[--try] [--externals FILE] ")
+    words = command.parser(__doc__, "FOLDER", usage="%(prog)s [--try] [--externals FILE] [OPTION..] FOLDER")
     words.add_argument("--try", action="store_true", dest="must_be_one", help="lines only where just one count reads")
     words.add_argument("--externals", metavar="FILE", help="counts that are known already")
     # With --unknown-zero no body waits for a name.
@@ -264,7 +241,7 @@ def main():
         search.progress.end()
     show(search, all_trials, asked.must_be_one)
     for body in left:  # those that no count mends
-        say(f"{body.path} stays raw: {body.fault}")
+        say(f"{body.node.path()} stays raw: {body.fault}")
 
 
 if __name__ == "__main__":

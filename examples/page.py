@@ -28,7 +28,7 @@ from acpidis_tools.comparison import compare
 from acpidis_tools.errors import read_errors
 from acpidis_tools.listing import NoListing, read_file
 from acpidis_tools.page.markup import page
-from acpidis_tools.page.sheet import LONG_TEXT, Sheet
+from acpidis_tools.page.sheet import Sheet
 
 # A browser opens the page of the first in some seconds. The second can be read, for a part of it.
 MOST_BYTES, MOST_TO_READ = 20_000_000, 256_000_000
@@ -44,10 +44,6 @@ def of_file(file: str, make: Callable[[bytes], Made], most: int, what: str = "is
         command.refuse(f"{file!r} {what}: {fault}")
 
 
-def sheet_in(text: bytes) -> Sheet:
-    return Sheet.of(text, len(text) > LONG_TEXT)
-
-
 def name_of(file: str) -> str:
     path = pathlib.Path(file).absolute()
     return path.parent.name if path.name == "text" else path.name
@@ -58,10 +54,9 @@ def sheet_of(asked: argparse.Namespace) -> Sheet:
     most = MOST_TO_READ if asked.only else MOST_BYTES
 
     def make(text: bytes) -> Sheet:
-        sheet = sheet_in(text)
+        sheet = Sheet.of(text)
         if asked.only:
             sheet.only(asked.only)
-            sheet.is_packed = len(sheet.shown or ()) > LONG_TEXT // 40
         return sheet
 
     sheet = of_file(asked.listing, make, most)
@@ -70,8 +65,8 @@ def sheet_of(asked: argparse.Namespace) -> Sheet:
         what = "isn't the standard error of this listing"
         sheet.faults = of_file(asked.errors, lambda text: read_errors(text, sheet.listing), MOST_BYTES, what)
     if asked.compare:
-        other = of_file(asked.compare, sheet_in, most)
-        sheet.comparison = compare(sheet.names, sheet.listing, other.names, other.listing, name_of(asked.compare))
+        other = of_file(asked.compare, Sheet.of, most)
+        sheet.comparison = compare(sheet.decoder, other.decoder, name_of(asked.compare))
     return sheet
 
 

@@ -14,17 +14,17 @@ import os
 import pathlib
 import re
 import shutil
-import subprocess
 import sys
 import tempfile
 
 from acpidis_tools import aml, command, running
 from acpidis_tools.listing import file_name
+from acpidis_tools.standard import counted, escaped
 
 HEADER, MOST_BYTES, SHOWN_BYTES, MOST_SHOWN = aml.HEADER, 16_777_216, 16, 5
 BLOCKS = (b"DSDT", b"SSDT")
 CHAIN = (b"RSD PTR ", b"XSDT", b"RSDT", b"FACP")
-LINE = re.compile(r'acpidis: (?:table "(?P<file>[^"]*)": )?(?P<word>\w+)(?: at (?P<at>\d+)| (?P<path>\\\S*))?')
+LINE = re.compile(r'acpidis: (?:table "(?P<file>[^"]*)": )?(?P<word>\w+)(?: at (?P<at>\d+)| (?P<path>\\\S*))?|.*')
 GIVEN = re.compile(r"(\\[A-Z0-9_.]+) ([0-7])")
 METHOD = re.compile(rb"\x14(?:[\x00-\x3f]|[\x40-\x4f].|[\x80-\x8f]..|[\xc0-\xcf]...)([A-Z_][A-Z0-9_]{3})(.)", re.DOTALL)
 
@@ -32,7 +32,7 @@ DUMPED = re.compile(rb"\s*(?:RSD PTR|[A-Z0-9!_]{4}) @ 0x[0-9A-Fa-f]+\s")
 
 
 def read_words(text):
-    """The tables of refusals.txt: ways on; what each word says, with those for an SSDT and a DSDT; the same with --any-run."""
+    """The tables of refusals.txt: ways on; what each word says, with those for an SSDT and DSDT; so with --any-run."""
     named, *tables = ([line for line in part.splitlines() if not line.startswith("#")] for part in text.split("\n\n"))
     ways = dict(line.split(" ", 1) for line in named)
     ways_in = lambda cell: [ways.get(way, way) for way in cell.split("; ") if way]
@@ -42,7 +42,10 @@ def read_words(text):
 
 WAYS, WORDS, RAN = read_words((pathlib.Path(command.__file__).parent / "refusals.txt").read_text())
 # What is said of a byte of a table's AML.
-AT_BYTES = set("ModuleCode Truncated PkgPast PkgBits BadName UnknownOp NotHere StrayElse EmptyName BadCount TooDeep".split())
+AT_BYTES = {
+    "ModuleCode", "Truncated", "PkgPast", "PkgBits", "BadName", "UnknownOp", "NotHere", "StrayElse", "EmptyName",
+    "BadCount", "TooDeep",
+}  # fmt: skip
 
 
 class Refusal:
@@ -50,21 +53,9 @@ class Refusal:
 
     def __init__(self, line):
         form = LINE.fullmatch(line)
-        self.line = line.removeprefix("acpidis: ")
-        self.file = os.fsdecode(file_name(form["file"])) if form and form["file"] is not None else None
-        self.word = form["word"] if form else ""
-        self.at = int(form["at"]) if form and form["at"] else None
-        self.path = form["path"] if form else None
-
-
-def shown_name(name):
-    """A file's name without what a terminal would act on."""
-    return "".join(chr(byte) if 0x20 <= byte <= 0x7E else f"\\x{byte:02X}" for byte in os.fsencode(name))
-
-
-def file_names(folder):
-    with os.scandir(folder) as entries:
-        return sorted(entry.name for entry in entries if entry.is_file(follow_symlinks=False) and entry.name != "tables.map")
+        self.line, self.word, self.path = line.removeprefix("acpidis: "), form["word"] or "", form["path"]
+        self.file = None if form["file"] is None else os.fsdecode(file_name(form["file"]))
+        self.at = int(form["at"]) if form["at"] else None
 
 
 def head_of(data):
@@ -75,14 +66,15 @@ def head_of(data):
 
 
 def load_order(program, folder):
-    """The names of the definition blocks in the order in which they load: the program says it of their headers alone."""
-    names, found = file_names(folder), []
+    """The names of the definition blocks in the order in which they load: the program says it of the headers alone."""
+    files = (entry.name for entry in os.scandir(folder) if entry.is_file(follow_symlinks=False))
+    names, found = sorted(name for name in files if name != "tables.map"), []
     with tempfile.TemporaryDirectory() as room:
         for name in names:
             (pathlib.Path(room) / name).write_bytes(head_of(read_file(folder, name)))
         if (pathlib.Path(folder) / "tables.map").is_file():
             shutil.copy(pathlib.Path(folder) / "tables.map", room)
-        done = subprocess.run([program, "--any-sum", "--", room], stdin=subprocess.DEVNULL, capture_output=True, check=False)
+        done, _ = running.started([program, "--any-sum", "--", room], "replace")
         if done.returncode == 0:
             found = re.findall(r'^DefinitionBlock \("(.*)"\) \{$', done.stdout.decode(), re.MULTILINE)
     loaded = [os.fsdecode(file_name(shown)) for shown in found]
@@ -94,11 +86,21 @@ def read_file(folder, name):
         return file.read(MOST_BYTES + 1)
 
 
-class Set:
-    """The tables in load order, read up to where the set is refused, and where it is asked for behind that too."""
+def path_of(node):
+    return aml.cut(node.path())
+
+
+def bytes_at(code, at):
+    shown = code[at : at + SHOWN_BYTES].hex(" ").upper()
+    return shown + (" .." if len(code) > at + SHOWN_BYTES else "") if shown else "the table's end"
+
+
+class Tables:
+    """The tables in load order, read up to where the set is refused, and where it is asked for behind that too; and
+    what they say of the refusal."""
 
     def __init__(self, asked, program, refusal):
-        self.order = load_order(program, asked.folder)
+        self.refusal, self.order = refusal, load_order(program, asked.folder)
         if refusal.file is not None and refusal.file not in self.order:
             self.order.append(refusal.file)
         self.codes = [aml.code_of(read_file(asked.folder, name)) for name in self.order]
@@ -110,11 +112,11 @@ class Set:
             node = self.space.node(path)
             node.given = max(node.given or 0, int(count))
 
-    def read_to(self, refusal):
+    def read_to_fault(self):
         """Reads the tables in front of the one at fault, and that one to where the fault is."""
         for number, (name, code) in enumerate(zip(self.order, self.codes)):
-            is_last = name == refusal.file
-            reader = aml.Reader(number, code, self.space, refusal.at if is_last else None, self.any_run)
+            is_last = name == self.refusal.file
+            reader = aml.Reader(number, code, self.space, self.refusal.at if is_last else None, self.any_run)
             reader.stopped = reader.read()
             if is_last:
                 self.at_fault = reader
@@ -125,141 +127,123 @@ class Set:
             aml.Reader(number, self.codes[number], self.space, has_calls=self.any_run).read()
 
     def place(self, table, at):
-        return f"{shown_name(self.order[table])}, offset {at}, byte {at + HEADER} of the file"
+        return f"{escaped(os.fsencode(self.order[table]))}, offset {at}, byte {at + HEADER} of the file"
 
+    def told(self, node):
+        """Where a path is declared, in words."""
+        places = [f"{word} at {self.place(table, at)}" for table, at, word in node.places]
+        other = "nowhere in the tables" if node.external is None else "an External"
+        return " and ".join(places) or ("predefined" if node.is_predefined else other)
 
-def path_of(node):
-    return aml.cut(node.path())
-
-
-def bytes_at(code, at):
-    shown = code[at : at + SHOWN_BYTES].hex(" ").upper()
-    return shown + (" .." if len(code) > at + SHOWN_BYTES else "") if shown else "the table's end"
-
-
-def counted(count):
-    return f"{count} argument" if count == 1 else f"{count} arguments"
-
-
-def told(found, node):
-    """Where a path is declared, in words."""
-    places = [f"{word} at {found.place(table, at)}" for table, at, word in node.places]
-    if not places and node.is_predefined:
-        places = ["predefined"]
-    if not places and node.external is not None:
-        places = ["an External"]
-    return " and ".join(places) or "nowhere in the tables"
-
-
-def say_code(found, refusal):
-    """Of a fault with an offset."""
-    reader = found.at_fault
-    yield f"{found.place(reader.table, refusal.at)}, in the scope {path_of(reader.scope)}"
-    yield f"  bytes {bytes_at(reader.code, refusal.at)}"
-    if reader.stopped != refusal.at:
-        yield f"  the reader of this script came to {reader.stopped} only"
-        return
-    # A line for each of the terms that the reader is in, the inner first
-    blocks = [f"  in {aml.text(term)}, offset {term.at}" for term in reversed(reader.open[-MOST_SHOWN:])]
-    before = reader.before
-    # The last names of the term in front, and of the one that the reader is in
-    front = before or next(reversed(reader.open), None)
-    uses = [use for use in reader.uses[-MOST_SHOWN:] if front is not None and use.term.at >= front.at]
-    term, stopped = reader.term_at(refusal.at) if refusal.word == "ModuleCode" else (None, None)
-    if term is not None:
-        yield from (f"  {line}" for line in aml.lines(term))
-    if stopped is not None:
-        yield f"  which this script can read to {stopped}"
-    yield from blocks
-    if before is not None:
-        yield f"  behind {aml.text(before)}, offset {before.at}"
-    yield from say_counts(found, reader, uses)
-
-
-def say_counts(found, reader, uses):
-    """Which of the names may be calls with arguments, which would shift all that follows."""
-    # The methods that the bytes seem to declare, by the last segments of their names
-    methods = METHOD.finditer(reader.code) if found.any_run else ()
-    ahead = {form[1].decode(): (form.start(), form[2][0] & 7) for form in methods}
-    for use in uses:
-        known = found.space.count(use.scope, use.name)
-        if known and known[0] and use.read == 0:
-            with_them = ": `--any-run` reads calls outside the methods" if found.wants_any_run else ""
-            yield f"  {use.name} takes {counted(known[0])} ({told(found, known[1])}), and was read without them{with_them}"
-        elif found.any_run and not known and use.name.segments and use.name.segments[-1] in ahead:
-            at, count = ahead[use.name.segments[-1]]
-            yield f"  nothing tells of {use.name} before it; a Method of {counted(count)} may stand at offset {at}"
-            place = found.space.given_place(use.scope, use.name)
-            path = path_of(place) if place else "?"
-            yield f"  a line `{path} {count}` in the file of --externals would tell it"
-
-
-def say_duplicate(found, refusal):
-    node = found.space.node(refusal.path)
-    yield f"{path_of(node)} is declared"
-    for table, at, word in node.places:
-        yield f"  as a {word} at {found.place(table, at)}"
-    if not node.places:
-        yield "  where this script can't follow"
-
-
-def say_missing(found, refusal):
-    """Who wants a path, and what declares it later."""
-    reader, node = found.at_fault, found.space.node(refusal.path)
-    # With --any-run a path may be refused that leads somewhere, but not in each run to the same.
-    wanted = [(term, scope) for term, scope, place in (reader.wanted if found.any_run else reader.missing) if place is node]
-    for term, scope in wanted[:MOST_SHOWN]:
-        yield f"{path_of(node)} is wanted by {aml.text(term)} at {found.place(reader.table, term.at)}, in {path_of(scope)}"
-    if len(wanted) > MOST_SHOWN:
-        yield f"  and {len(wanted) - MOST_SHOWN} more"
-    for term, scope in wanted[:1] if found.any_run else []:
-        for meant in found.space.candidates(scope, term.names()[0]):
-            if meant.is_declared() or meant.external is not None:
-                yield f"  it may mean {path_of(meant)}: {told(found, meant)}"
-    found.read_rest()
-    yield f"  declared: {told(found, node)}"
-
-
-def say_above(found, _):
-    reader = found.at_fault
-    above = [(term, scope) for term, scope, place in reader.missing if place is None]
-    for term, scope in above[:MOST_SHOWN]:
-        yield f"{aml.text(term)} at {found.place(reader.table, term.at)}, in the scope {path_of(scope)}"
-
-
-def say_calls(found, refusal):
-    """The names outside the methods that take arguments; with --any-run those of the path."""
-    reader, shown = found.at_fault, 0
-    wanted = found.space.node(refusal.path) if refusal.path else None
-    found.read_rest()
-    for use in reader.uses:
-        known = found.space.count(use.scope, use.name)
-        if not (found.space.place(use.scope, use.name) is wanted if wanted else known and known[0]):
-            continue
-        shown += 1
-        if shown > MOST_SHOWN:
-            yield "  and more"
+    def say_code(self):
+        """Of a fault with an offset."""
+        reader = self.at_fault
+        yield f"{self.place(reader.table, self.refusal.at)}, in the scope {path_of(reader.scope)}"
+        yield f"  bytes {bytes_at(reader.code, self.refusal.at)}"
+        if reader.stopped != self.refusal.at:
+            yield f"  the reader of this script came to {reader.stopped} only"
             return
-        term = f", in {aml.text(use.around)}" if use.around else ""
-        yield f"{use.name} at {found.place(reader.table, use.term.at)}, in the scope {path_of(use.scope)}{term}"
-        takes = f"it takes {counted(known[0])}: {told(found, known[1])}" if known else "nothing tells how many it takes"
-        yield f"  read with {counted(use.read)}; {takes}"
+        # A line for each of the terms that the reader is in, the inner first
+        blocks = [f"  in {aml.text(term)}, offset {term.at}" for term in reversed(reader.open[-MOST_SHOWN:])]
+        before = reader.before
+        # The last names of the term in front, and of the one that the reader is in
+        front = before or next(reversed(reader.open), None)
+        uses = [use for use in reader.uses[-MOST_SHOWN:] if front is not None and use.term.at >= front.at]
+        term, stopped = reader.term_at(self.refusal.at) if self.refusal.word == "ModuleCode" else (None, None)
+        if term is not None:
+            yield from (f"  {line}" for line in aml.lines(term))
+        if stopped is not None:
+            yield f"  which this script can read to {stopped}"
+        yield from blocks
+        if before is not None:
+            yield f"  behind {aml.text(before)}, offset {before.at}"
+        yield from self.say_counts(reader, uses)
+
+    def say_counts(self, reader, uses):
+        """Which of the names may be calls with arguments, which would shift all that follows."""
+        # The methods that the bytes seem to declare, by the last segments of their names
+        methods = METHOD.finditer(reader.code) if self.any_run else ()
+        ahead = {form[1].decode(): (form.start(), form[2][0] & 7) for form in methods}
+        for use in uses:
+            known = self.space.count(use.scope, use.name)
+            if known and known[0] and use.read == 0:
+                takes = f"takes {counted(known[0], 'argument')} ({self.told(known[1])}), and was read without them"
+                with_them = ": `--any-run` reads calls outside the methods" if self.wants_any_run else ""
+                yield f"  {use.name} {takes}{with_them}"
+            elif self.any_run and not known and use.name.segments and use.name.segments[-1] in ahead:
+                at, count = ahead[use.name.segments[-1]]
+                method = f"a Method of {counted(count, 'argument')} may stand at offset {at}"
+                yield f"  nothing tells of {use.name} before it; {method}"
+                place = self.space.given_place(use.scope, use.name)
+                path = path_of(place) if place else "?"
+                yield f"  a line `{path} {count}` in the file of --externals would tell it"
+
+    def say_duplicate(self):
+        node = self.space.node(self.refusal.path)
+        yield f"{path_of(node)} is declared"
+        for table, at, word in node.places:
+            yield f"  as a {word} at {self.place(table, at)}"
+        if not node.places:
+            yield "  where this script can't follow"
+
+    def say_missing(self):
+        """Who wants a path, and what declares it later."""
+        reader, node = self.at_fault, self.space.node(self.refusal.path)
+        # With --any-run a path may be refused that leads somewhere, but not in each run to the same.
+        found = reader.wanted if self.any_run else reader.missing
+        wanted = [(term, scope) for term, scope, place in found if place is node]
+        for term, scope in wanted[:MOST_SHOWN]:
+            where = f"{self.place(reader.table, term.at)}, in {path_of(scope)}"
+            yield f"{path_of(node)} is wanted by {aml.text(term)} at {where}"
+        if len(wanted) > MOST_SHOWN:
+            yield f"  and {len(wanted) - MOST_SHOWN} more"
+        for term, scope in wanted[:1] if self.any_run else []:
+            for meant in self.space.candidates(scope, term.names()[0]):
+                if meant.is_declared() or meant.external is not None:
+                    yield f"  it may mean {path_of(meant)}: {self.told(meant)}"
+        self.read_rest()
+        yield f"  declared: {self.told(node)}"
+
+    def say_above(self):
+        reader = self.at_fault
+        above = [(term, scope) for term, scope, place in reader.missing if place is None]
+        for term, scope in above[:MOST_SHOWN]:
+            yield f"{aml.text(term)} at {self.place(reader.table, term.at)}, in the scope {path_of(scope)}"
+
+    def say_calls(self):
+        """The names outside the methods that take arguments; with --any-run those of the path."""
+        reader, shown = self.at_fault, 0
+        wanted = self.space.node(self.refusal.path) if self.refusal.path else None
+        self.read_rest()
+        for use in reader.uses:
+            known = self.space.count(use.scope, use.name)
+            if not (self.space.place(use.scope, use.name) is wanted if wanted else known and known[0]):
+                continue
+            shown += 1
+            if shown > MOST_SHOWN:
+                yield "  and more"
+                return
+            term = f", in {aml.text(use.around)}" if use.around else ""
+            yield f"{use.name} at {self.place(reader.table, use.term.at)}, in the scope {path_of(use.scope)}{term}"
+            takes = f"it takes {counted(known[0], 'argument')}: {self.told(known[1])}" if known else ""
+            yield f"  read with {counted(use.read, 'argument')}; {takes or 'nothing tells how many it takes'}"
 
 
 SAYERS = {
-    "Duplicate": say_duplicate, "ScopeMissing": say_missing, "AliasMissing": say_missing, "AboveRoot": say_above,
-    "ModuleCall": say_calls,
+    "Duplicate": Tables.say_duplicate, "ScopeMissing": Tables.say_missing, "AliasMissing": Tables.say_missing,
+    "AboveRoot": Tables.say_above, "ModuleCall": Tables.say_calls,
 }
 
 
-def say_file(asked, refusal):
+def say_file(refusal, data):
     """What a file has that is no whole table."""
-    data = read_file(asked.folder, refusal.file)
-    yield f"{shown_name(refusal.file)} has {len(data)} bytes{' at least' * (len(data) > MOST_BYTES)}, and begins with"
+    least = " at least" * (len(data) > MOST_BYTES)
+    yield f"{escaped(os.fsencode(refusal.file))} has {len(data)} bytes{least}, and begins with"
     yield f"  {bytes_at(data, 0)}"
     length = int.from_bytes(data[4:8], "little")
     if len(data) >= 8 and not data.startswith(b"RSD PTR "):
-        yield f"  its Length is {length}" + (f", and so many bytes sum to {sum(data[:length]) % 256}" if length <= len(data) else "")
+        total = f", and so many bytes sum to {sum(data[:length]) % 256}" if length <= len(data) else ""
+        yield f"  its Length is {length}{total}"
     if refusal.at is not None:
         yield f"  at byte {refusal.at} stands {bytes_at(data, refusal.at)}"
 
@@ -270,42 +254,41 @@ def say_folder(asked):
     names = sorted(os.listdir(folder)) if os.access(folder, os.R_OK | os.X_OK) and os.path.isdir(folder) else []
     for name in names:
         if os.path.islink(os.path.join(folder, name)):
-            yield f"  {shown_name(name)} is a link, which is passed over"
+            yield f"  {escaped(name)} is a link, which is passed over"
         elif "\ufffd" in name.decode(errors="replace"):
-            yield f"  {shown_name(name)} isn't UTF-8"
+            yield f"  {escaped(name)} isn't UTF-8"
 
 
-def words_on(asked, refusal):
+def words_on(asked, refusal, data):
     """What is said of a refusal, and the ways on, of an SSDT and of a DSDT."""
-    begin = read_file(asked.folder, refusal.file) if refusal.word == "Short" else b""
-    if begin.startswith(command.PACKED):
+    if refusal.word == "Short" and data.startswith(command.PACKED):
         return WORDS["a packed file"]
-    if DUMPED.match(begin):
+    if refusal.word == "Short" and DUMPED.match(data):
         return WORDS["the text of acpidump"]
     # No option takes a Return outside the methods.
-    is_code = refusal.word == "ModuleCode" and None not in (refusal.file, refusal.at)
-    code = aml.code_of(read_file(asked.folder, refusal.file)) if is_code else b""
-    told_by = {**WORDS, **RAN} if asked.any_run or code[refusal.at :][:1] == b"\xa4" else WORDS
+    code = aml.code_of(data)[refusal.at :] if refusal.word == "ModuleCode" and refusal.at is not None else b""
+    told_by = {**WORDS, **RAN} if asked.any_run or code[:1] == b"\xa4" else WORDS
     return told_by.get(refusal.word, ("", [], []))
 
 
 def say_all(asked, program, refusal):
     yield refusal.line
-    what, ways, ways_of_dsdt = words_on(asked, refusal)
+    data = b"" if refusal.file is None else read_file(asked.folder, refusal.file)
+    what, ways, ways_of_dsdt = words_on(asked, refusal, data)
     if refusal.file is not None and (refusal.word in AT_BYTES or refusal.word in SAYERS):
-        found = Set(asked, program, refusal)
+        found = Tables(asked, program, refusal)
         try:
-            found.read_to(refusal)
-            yield from SAYERS.get(refusal.word, say_code)(found, refusal)
+            found.read_to_fault()
+            yield from SAYERS.get(refusal.word, Tables.say_code)(found)
         except aml.TooManySteps:
             yield "  the scopes are too deep for this script to follow"
     elif refusal.file is not None:
-        yield from say_file(asked, refusal)
+        yield from say_file(refusal, data)
     else:
         yield from itertools.islice(say_folder(asked), MOST_SHOWN)
-    if refusal.file is not None and read_file(asked.folder, refusal.file).startswith(b"DSDT"):
-        ways = ways_of_dsdt
-    ways = [way for way in ways if (asked.externals or way != WAYS["no-count"]) and (asked.has_any_run or way != WAYS["any-run"])]
+    ways = ways_of_dsdt if data.startswith(b"DSDT") else ways
+    without = [WAYS["no-count"]] * (not asked.externals) + [WAYS["any-run"]] * (not asked.has_any_run)
+    ways = [way for way in ways if way not in without]
     if what:
         yield what
     if refusal.line.startswith(("tables.map line", "externals line")):
@@ -315,24 +298,20 @@ def say_all(asked, program, refusal):
     yield "Way on: " + ("; or ".join(ways) or way)
 
 
-def say(asked):
-    """The lines to print, and the status."""
+def main():
+    sys.stdout.reconfigure(errors="backslashreplace")
+    sys.stderr.reconfigure(errors="backslashreplace")
+    asked = command.parse(command.parser(__doc__, "FOLDER", usage="%(prog)s [OPTION..] FOLDER"))
     program = running.program()
     words = [program, *command.words_of(asked.options), "--check", "--", asked.folder]
     *_, line = running.ended(words, "surrogateescape")
     if line is None:
-        return ["the set isn't refused"], 0
+        print("the set isn't refused")
+        return
     asked.any_run, asked.externals = "--any-run" in asked.options, asked.options.get("--externals")
     asked.has_any_run = "--any-run" in command.known()
-    return list(say_all(asked, program, Refusal(line))), 1
-
-
-def main():
-    sys.stdout.reconfigure(errors="backslashreplace")
-    sys.stderr.reconfigure(errors="backslashreplace")
-    said, status = say(command.parse(command.folder_parser(__doc__)))
-    print("\n".join(said))
-    sys.exit(status)
+    print("\n".join(say_all(asked, program, Refusal(line))))
+    sys.exit(command.REFUSED)
 
 
 if __name__ == "__main__":

@@ -35,9 +35,7 @@ def shown(sheet: Sheet, ends: tuple[str, ...]) -> Iterator[str]:
 
 def declared(line: Line, sheet: Sheet) -> str:
     """The path that a line declares, if it does."""
-    if line.declared is None:
-        return ""
-    meaning = sheet.decoder.meanings(line).get(line.declared % len(line.words))
+    meaning = sheet.decoder.declared(line)
     return path_text(meaning.path) if meaning and meaning.path else ""
 
 
@@ -56,7 +54,8 @@ def other(sheet: Sheet, asked: tuple[str, ...]) -> str:
     last, paths = asked[0].lstrip("\\").rpartition(".")[2], [row.path for row in sheet.listing.rows]
     segments = sorted({path[-1] for path in paths if path})
     like = [path_text(path) for path in paths if path[-1:] == (last,)]
-    like = like or [it for it in segments if last.rstrip("_") in it] or difflib.get_close_matches(last, segments, MOST_LIKE)
+    like = like or [it for it in segments if last.rstrip("_") in it]
+    like = like or difflib.get_close_matches(last, segments, MOST_LIKE)
     return f"; like it: {', '.join(like[:MOST_LIKE])}" if like else ""
 
 

@@ -26,10 +26,9 @@ SCOPED = aml.OPENERS | {"Method"}
 ARCHIVE = "kernel/firmware/acpi"
 
 
-# Where a path is declared: the term's word, its first byte, the byte behind its name, and the one
-# behind it; the path of the scope that it stands in, and the package lengths around it, the outer
-# first, with its own where it has one
-Place = namedtuple("Place", "word start named end scope lengths")
+# Where a path is declared: the term's word, the byte behind its name, and the one behind it; the path of the scope that
+# it stands in, and the package lengths around it, the outer first, with its own where it has one
+Place = namedtuple("Place", "word named end scope lengths")
 
 
 class Reader(aml.Reader):
@@ -40,22 +39,19 @@ class Reader(aml.Reader):
         self.found, self.packages = {}, []
 
     def operation(self, term, kinds, at, end, kind, level):
-        scope, around = self.scope, len(self.packages)
+        scope, around, start = self.scope, len(self.packages), at
         if kinds[:1] == "P":
             self.packages.append(at)
+            start += self.length(at, end)[1]
         lengths = list(self.packages)
         made, after = super().operation(term, kinds, at, end, kind, level)
         del self.packages[around:]
         if kind == "R" and term.word in aml.DECLARERS and term.word not in aml.NAMED_LAST:
-            self.keep(term, kinds, at, after, scope, lengths)
+            name, named = self.name(start, len(self.code))
+            node = self.space.place(scope, name)
+            if node:
+                self.found.setdefault(node.path(), []).append(Place(term.word, named, after, scope.path(), lengths))
         return made, after
-
-    def keep(self, term, kinds, at, after, scope, lengths):
-        start = at + (self.length(at, len(self.code))[1] if kinds[:1] == "P" else 0)
-        name, named = self.name(start, len(self.code))
-        node = self.space.place(scope, name)
-        if node:
-            self.found.setdefault(node.path(), []).append(Place(term.word, term.at, named, after, scope.path(), lengths))
 
 
 def code_of(dump, file):
@@ -108,7 +104,8 @@ def patched(dump, new, path, files):
     if place.word != source.word:
         raise Refused(f"{path} is a {place.word} in {files[0]!r}, and a {source.word} in {files[1]!r}")
     if place.word not in SCOPED and place.scope != source.scope:
-        raise Refused(f"{path} stands in the scope {place.scope} of {files[0]!r}, and in {source.scope} of {files[1]!r}")
+        scopes = f"{place.scope} of {files[0]!r}, and in {source.scope} of {files[1]!r}"
+        raise Refused(f"{path} stands in the scope {scopes}")
     return sealed(dump[:HEADER] + spliced(code, place, other[source.named : source.end]))
 
 

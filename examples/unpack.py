@@ -14,10 +14,7 @@ then. 2 is a command line that is at fault, a FOLDER that isn't empty, or a file
 
 import itertools
 import os
-import pathlib
 import re
-import shutil
-import tempfile
 from collections import Counter, namedtuple
 
 from acpidis_tools import command
@@ -70,7 +67,8 @@ def dumped(text):
         elif row and title:
             had, more = len(tables[-1][1]), bytes.fromhex(row[2])
             if int(row[1], 16) != had:
-                raise Refused(f"line {odd or number}: a whole row of {title[1]} at {had & -WIDTH:04X} should stand there")
+                row = f"a whole row of {title[1]} at {had & -WIDTH:04X}"
+                raise Refused(f"line {odd or number}: {row} should stand there")
             tables[-1][1].extend(more)
             odd = number * (len(more) < WIDTH)  # the first line that is no whole row
         elif not line.strip("> \t\r"):
@@ -145,24 +143,17 @@ def leads(tables):
 
 
 def write(folder, tables):
-    """Writes the folder as a whole, or not at all."""
-    place = os.path.abspath(folder)
-    if os.path.lexists(place) and (not os.path.isdir(place) or os.listdir(place)):
+    if os.path.lexists(folder) and (not os.path.isdir(folder) or os.listdir(folder)):
         command.leave(f"{folder!r} is there, and isn't an empty folder")
     names = list(names_of(tables))
-    with command.naming(folder):
-        part = tempfile.mkdtemp(dir=os.path.dirname(place), prefix=".part")
-        try:
-            for name, table in zip(names, tables):
-                pathlib.Path(part, name).write_bytes(table.data)
-            if leads(tables):
-                lines = (f"{table.address:016X} {name}\n" for name, table in zip(names, tables) if table.address)
-                pathlib.Path(part, "tables.map").write_text("".join(lines), encoding="ascii")
-            os.chmod(part, 0o755)
-            os.replace(part, place)
-        except BaseException:
-            shutil.rmtree(part, ignore_errors=True)
-            raise
+    with command.whole(folder) as part:
+        part.mkdir()
+        for name, table in zip(names, tables):
+            (part / name).write_bytes(table.data)
+        if leads(tables):
+            lines = (f"{table.address:016X} {name}\n" for name, table in zip(names, tables) if table.address)
+            (part / "tables.map").write_text("".join(lines), encoding="ascii")
+        part.chmod(0o755)
     for name, table in zip(names, tables):
         print(name, table.signature, len(table.data))
 

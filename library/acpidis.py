@@ -25,7 +25,7 @@ __all__ = ["Fault", "Listing", "Method", "Refused", "Row", "check", "load", "ver
 MAP = "tables.map"
 MOST_DUMPS = 512
 MOST_BYTES = 16_777_216
-ANY_SUM, ANY_RUN, UNKNOWN_ZERO = 1, 2, 4
+OPTIONS = (1, 2, 4)  # any_sum, any_run, unknown_zero
 OK, NO_MEMORY, REFUSED = 0, 3, 12
 METHOD, ALIAS = 2, 3
 # What a row, a method, a body and a table are in memory.
@@ -145,14 +145,6 @@ class Open:
         if code != OK:
             raise Refused(self.library.acpidis_words(code).decode())
 
-    def count(self, text: bytes) -> None:
-        """Sets the counts of the user."""
-        line = ctypes.c_size_t()
-        try:
-            self.do("set_counts", text, len(text), line)
-        except Refused as refused:
-            raise Refused(f"externals line {line.value}: {refused}" if line.value else str(refused)) from None
-
     def run(self, checks: bool) -> Tuple[int, str, List[str]]:
         """Runs the set: its status, its text and its error lines."""
         self.do("run", checks)
@@ -249,7 +241,7 @@ def read_map(text: bytes, names: List[str]) -> Dict[str, int]:
     return placed
 
 
-def filled(opened: Open, source: Source, options: int, externals: Counts) -> List[str]:
+def filled(opened: Open, source: Source, externals: Counts, *options: bool) -> List[str]:
     """Fills a set from a source. Answers the names of its dumps."""
     files = dict(source) if isinstance(source, Mapping) else read_folder(pathlib.Path(source))
     text = files.pop(MAP, None)
@@ -257,17 +249,17 @@ def filled(opened: Open, source: Source, options: int, externals: Counts) -> Lis
     addresses = {} if text is None else read_map(text, names)
     if isinstance(externals, Mapping):
         externals = "".join(f"{path} {count}\n" for path, count in externals.items()).encode()
-    opened.do("set_options", options)
-    if externals is not None:
-        opened.count(externals)
+    opened.do("set_options", sum(bit for bit, is_set in zip(OPTIONS, options) if is_set))
+    line = ctypes.c_size_t()
+    try:
+        if externals is not None:
+            opened.do("set_counts", externals, len(externals), line)
+    except Refused as refused:
+        raise Refused(f"externals line {line.value}: {refused}" if line.value else str(refused)) from None
     for name in names:
         address = ctypes.c_uint64(addresses[name]) if name in addresses else None
         opened.do("add", os.fsencode(name), address, files[name], len(files[name]))
     return names
-
-
-def options_of(any_sum: bool, any_run: bool, unknown_zero: bool) -> int:
-    return any_sum * ANY_SUM | any_run * ANY_RUN | unknown_zero * UNKNOWN_ZERO
 
 
 def load(
@@ -276,12 +268,12 @@ def load(
 ) -> Listing:  # fmt: skip
     """The listing of a folder of dumps, or of the bytes of dumps by their names.
 
-    The options are the program's. `externals` is the text of a file of counts, or the counts by their paths. Without `text`
-    there is none, and without `bodies` the methods have neither bodies nor faults: each takes about as long as the program.
-    Raises `Refused` where the set has no listing, and MemoryError where memory is short.
+    The options are the program's. `externals` is the text of a file of counts, or the counts by their paths. Without
+    `text` there is none, and without `bodies` the methods have neither bodies nor faults: each takes about as long as
+    the program. Raises `Refused` where the set has no listing, and MemoryError where memory is short.
     """
     with Open() as opened:
-        names = filled(opened, source, options_of(any_sum, any_run, unknown_zero), externals)
+        names = filled(opened, source, externals, any_sum, any_run, unknown_zero)
         _, told, errors = opened.run(False) if text else (0, "", [])
         rows, methods = opened.listed(names, bodies)
     raw = [Fault(method.path, method.fault) for method in methods if method.fault]
@@ -296,5 +288,5 @@ def check(
 ) -> str:  # fmt: skip
     """The lines that the program prints with --check: of each table whether what was read encodes to its bytes."""
     with Open() as opened:
-        filled(opened, source, options_of(any_sum, any_run, unknown_zero), externals)
+        filled(opened, source, externals, any_sum, any_run, unknown_zero)
         return opened.run(True)[1]

@@ -272,7 +272,7 @@ class Checks(Tally):
         self.is_same("no path", self.run(SPLICE, old, new, "1").returncode, 2)
         for option, file in ("-o", old), ("--initrd", "splice/../splice/old"), ("-o", "-"):
             ran = self.run(SPLICE, option, file, old, new, "NAM1")
-            said = f"splice.py: error: {file!r} is {'no name of a file' if file == '-' else 'DUMP'}: name another"
+            said = f"acpidis-splice: {file!r} is {'no name of a file' if file == '-' else 'DUMP'}: name another"
             self.is_same(f"splice {option} {file}", (ran.returncode, ran.stderr.splitlines()[-1]), (2, said))
         self.is_same("DUMP stays", (self.room / old).read_bytes(), files["old"])
         words = [SPLICE, "--oem-revision", "--initrd", "acpi.cpio", old, new, "\\DEV0.MET0", "dev0.nam0", "\\NAM1"]

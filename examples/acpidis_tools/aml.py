@@ -1,7 +1,8 @@
 """Reads the AML of tables from the left, as far as it can: for the scripts beside this file.
 
-A name has the arguments that the tables told so far, and none where they told nothing. What comes is for looking at; what
-tables mean the program alone says. Each byte is read once, and the search for names has a bound: the cost grows as the bytes.
+A name has the arguments that the tables told so far, and none where they told nothing. What comes is for looking at;
+what tables mean the program alone says. Each byte is read once, and the search for names has a bound: the cost grows as
+the bytes.
 """
 
 import pathlib
@@ -10,12 +11,14 @@ import sys
 from collections import namedtuple
 
 from acpidis_tools import paths, standard
+from acpidis_tools.paths import Name
 
 HEADER, MOST_LEVELS = 36, 512
 # A level of terms is a few calls deep.
 sys.setrecursionlimit(20_000)
 # A segment, or as much of one as stands there
 SEGMENT = re.compile(rb"(?:[A-Z_][A-Z0-9_]{0,3})?")
+NAME_LEADS = set(rb"ABCDEFGHIJKLMNOPQRSTUVWXYZ_\^./")
 # What is read behind the parts of a term, by the kind of its tail
 TAILS = {"t": "block", "e": "elements", "f": "units", "b": "body", "y": "rest"}
 STEPS_PER_BYTE = 4
@@ -48,14 +51,6 @@ class TooManySteps(Exception):
     """The scopes are so deep that the search for names would take too long."""
 
 
-class Name(namedtuple("Name", "root ups segments")):
-    def __str__(self):
-        return "\\" * self.root + "^" * self.ups + ".".join(self.segments)
-
-    def is_searched(self):
-        return not self.root and not self.ups and len(self.segments) == 1
-
-
 class Term:
     """A term: where it begins, its mnemonic or its name, its parts (terms, names and texts), and what is inside it."""
 
@@ -72,7 +67,7 @@ class Term:
 
 
 class Node(paths.Node):
-    """A path: what declares it, each a table, an offset and a mnemonic; how many arguments it takes, as far as is known."""
+    """A path: what declares it, each a table, an offset and a mnemonic; how many arguments it takes, if it is known."""
 
     __slots__ = ("places", "is_predefined", "count", "external", "given", "target")
 
@@ -93,15 +88,8 @@ class Space(paths.Tree):
         self.root.is_predefined = True
         self.steps = STEPS_PER_BYTE * size + 100_000
         for segment, kind in standard.PREDEFINED.items():
-            node = self.root.child(segment)
+            node = self.root.at([segment])
             node.is_predefined, node.count = True, int(kind.partition(" ")[2] or 0)
-
-    def start(self, scope, name):
-        """Above the root there is no node."""
-        node = self.root if name.root else scope
-        for _ in range(name.ups):
-            node = node and node.above
-        return node, name.segments, name.is_searched()
 
     def step(self):
         self.steps -= 1
@@ -109,7 +97,7 @@ class Space(paths.Tree):
             raise TooManySteps
 
     def find(self, scope, name):
-        """What a name leads to: the first that is declared, else the first of an External; None where there is neither."""
+        """What a name leads to: the first that is declared, else the first of an External; None where neither is."""
         external = None
         for node in self.candidates(scope, name):
             if node.is_declared():
@@ -127,12 +115,6 @@ class Space(paths.Tree):
         node = node.target or node
         return (node.count, node) if node.is_declared() else (node.external or 0, node)
 
-    def declare(self, node, table, term):
-        if not node.places and term.word == "Method":
-            node.count = term.parts[1][1] & 7
-        if len(node.places) < KEPT_PLACES:
-            node.places += ((table, term.at, term.word),)
-
 
 # ---- reading
 
@@ -144,8 +126,8 @@ Use = namedtuple("Use", "term name scope read around")
 class Reader:
     """Reads a table up to an offset. Where `has_calls` isn't set no name has arguments.
 
-    When it stops, `open` are the terms that it is in, the outer first, `scope` is where it stands, and `before` the term
-    in front, if it stands among the terms of a block.
+    When it stops, `open` are the terms that it is in, the outer first, `scope` is where it stands, and `before` the
+    term in front, if it stands among the terms of a block.
     """
 
     def __init__(self, table, code, space, stop=None, has_calls=True):
@@ -199,12 +181,12 @@ class Reader:
             at += 1
         ups, lead, count = at - start, self.byte(at, end), 1
         if lead == 0x00:
-            return Name(root, ups, []), at + 1
+            return Name(root, ups, ()), at + 1
         if lead == 0x2E:
             count, at = 2, at + 1
         elif lead == 0x2F:
             count, at = self.byte(at + 1, end), at + 2
-        segments = [self.segment(place, end) for place in range(at, at + 4 * count, 4)]
+        segments = tuple(self.segment(place, end) for place in range(at, at + 4 * count, 4))
         return Name(root, ups, segments), at + 4 * count
 
     def segment(self, at, end):
@@ -227,7 +209,7 @@ class Reader:
         lead = self.byte(at, end)
         if level > MOST_LEVELS:
             raise Stopped(at)
-        if is_name_lead(lead):
+        if lead in NAME_LEADS:
             return self.named(at, end, kind, level)
         if kind == "S" and lead == 0x00:
             return Term(at, ""), at + 1
@@ -307,16 +289,13 @@ class Reader:
                 self.span(at + 1, width, end)
                 at += 1 + width
             elif lead == 0x02:
-                at = self.link(at + 1, end, level + 1)
+                is_buffer = self.byte(at + 1, end) == 0x11
+                at = (self.term(at + 1, end, "D", level + 1) if is_buffer else self.name(at + 1, end))[1]
             else:
                 name, at = self.name(at, end)
                 units.append(name)
                 at += self.bits(at, end)[1]
         return units
-
-    def link(self, at, end, level):
-        is_buffer = self.byte(at, end) == 0x11
-        return self.term(at, end, "D", level)[1] if is_buffer else self.name(at, end)[1]
 
     # ---- what terms do
 
@@ -359,8 +338,10 @@ class Reader:
 
     def declared(self, term, name):
         node = self.placed(term, name)
-        if node:
-            self.space.declare(node, self.table, term)
+        if node and not node.places and term.word == "Method":
+            node.count = term.parts[1][1] & 7
+        if node and len(node.places) < KEPT_PLACES:
+            node.places += ((self.table, term.at, term.word),)
         return node
 
     def placed(self, term, name):
@@ -375,20 +356,15 @@ def code_of(dump):
     return dump[HEADER : int.from_bytes(dump[4:8], "little")]
 
 
-def is_name_lead(byte):
-    return 0x41 <= byte <= 0x5A or byte in (0x5F, 0x5C, 0x5E, 0x2E, 0x2F)
-
-
 # ---- text
 
 
 def pieces(part):
     """The text of a part, bit by bit."""
-    if isinstance(part, bytes):
-        shown = part[:TEXT_LENGTH]
-        yield '"' + "".join(chr(it) if 0x20 <= it <= 0x7E and it not in b'"\\' else f"\\x{it:02X}" for it in shown) + '"'
-    elif isinstance(part, Name):
+    if isinstance(part, (str, Name)):
         yield str(part)
+    elif isinstance(part, bytes):
+        yield f'"{standard.escaped(part[:TEXT_LENGTH], {*range(0x20, 0x7F)} - {0x22, 0x5C})}"'
     elif isinstance(part, tuple):
         yield f"0x{part[1]:0{2 * part[0]}X}"
     elif part.word in CONSTANTS and part.parts:
@@ -407,10 +383,7 @@ def pieces(part):
 def grouped(left, parts, right):
     for number, part in enumerate(parts):
         yield ", " if number else left
-        if isinstance(part, str):
-            yield part
-        else:
-            yield from pieces(part)
+        yield from pieces(part)
     if parts:
         yield right
 

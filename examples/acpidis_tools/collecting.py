@@ -11,7 +11,8 @@ from acpidis_tools.comparison import text_of, texts_of
 from acpidis_tools.decoding import Decoder, flag_words, hardware_name
 from acpidis_tools.errors import Fault, name_at
 from acpidis_tools.listing import HEADER, Block, Dump, Line, Listing, Path, path_of, path_text
-from acpidis_tools.names import FIELD_LISTS, PREDEFINED, Meaning, Names, Sort, name_of
+from acpidis_tools.names import FIELD_LISTS, PREDEFINED, Meaning, Names, Sort
+from acpidis_tools.paths import Name
 from acpidis_tools.resources import Descriptor
 from acpidis_tools.schema import COLUMNS
 from acpidis_tools.standard import DEVICE_NAMES, eisa_number, space_name
@@ -33,11 +34,12 @@ HEXADECIMAL = ("Flags", "Address", "Controller", "AddressOverride", "Entry")
 UNKNOWN_RECORD = re.compile(r"Record (\d+) Length (\d+) ?(.*)")
 # The statements that are facts, each with the part that is an object, and the part that is a number.
 STATEMENTS = {
-    "Load": (0, None), "LoadTable": (None, None), "Unload": (0, None), "Notify": (0, 1), "Sleep": (None, 0), "Stall": (None, 0),
-    "Fatal": (None, 1),
+    "Load": (0, None), "LoadTable": (None, None), "Unload": (0, None), "Notify": (0, 1), "Sleep": (None, 0),
+    "Stall": (None, 0), "Fatal": (None, 1),
 }  # fmt: skip
 LONGEST_STATEMENT = 1_000
-SOURCE, SPEED = re.compile(r"(\\|\^*)([A-Z_][A-Z0-9_]{0,3}(?:\.[A-Z_][A-Z0-9_]{0,3})*)"), re.compile(r"([0-9]+) (?:Hz|baud)")
+SOURCE = re.compile(r"(\\|\^*)([A-Z_][A-Z0-9_]{0,3}(?:\.[A-Z_][A-Z0-9_]{0,3})*)")
+SPEED = re.compile(r"([0-9]+) (?:Hz|baud)")
 PINNED = ("GpioInt", "GpioIo", "PinFunction", "PinConfig", "PinGroup")
 INTERRUPTS = ("IRQ", "IRQNoFlags", "Interrupt", "GpioInt")
 CONSTANT_WORD = re.compile(r'"|0x|(?:Zero|Ones?|Revision)$')
@@ -50,8 +52,8 @@ def small(number: int | None) -> int | None:
 
 
 def table_rows(dumps: list[Dump], files: list[str], sums: dict[str, str]) -> list[list]:
-    """The rows of acpi_table, without their first two columns. `files` are those of the definition blocks in load order,
-    `sums` those of the dumps by the names of files."""
+    """The rows of acpi_table, without their first two columns. `files` are those of the definition blocks in load
+    order, `sums` those of the dumps by the names of files."""
     order = {file: number for number, file in enumerate(files, 1)}
     return [[*header_of(dump), order.get(dump.file), sums.get(dump.file)] for dump in dumps]
 
@@ -82,18 +84,14 @@ def fields_of(note: str, is_fadt: bool) -> list[tuple[str, str, str, int | None]
     """The fields of a line below a dump's: the kind of the record, label, value and number of each."""
     unknown, words = UNKNOWN_RECORD.fullmatch(note), note.split(" ")
     if unknown:
-        pairs = [("Type", unknown[1]), ("Length", unknown[2]), ("Bytes", unknown[3])]
-        return [("Record", label, value, number_of(value, 10)) for label, value in pairs]
-    if words[0] == "Entry":
+        words = ["Record", "Type", unknown[1], "Length", unknown[2], "Bytes", unknown[3]]
+    elif words[0] == "Entry":
         words = words[:2]
-    kind = words.pop(0) if len(words) % 2 else ""
-    pairs = list(zip(words[::2], words[1::2]))
-    return [(kind, label, value, number_of(value, 16 if is_fadt or label in HEXADECIMAL else 10)) for label, value in pairs]
-
-
-def number_of(value: str, base: int) -> int | None:
-    digits = "[0-9A-F]{1,16}" if base == 16 else "[0-9]{1,10}"
-    return small(int(value, base)) if re.fullmatch(digits, value) else None
+    kind, fields = words.pop(0) if len(words) % 2 else "", []
+    for label, value in zip(words[::2], words[1::2]):
+        base, digits = (16, "[0-9A-F]{1,16}") if is_fadt or label in HEXADECIMAL else (10, "[0-9]{1,10}")
+        fields.append((kind, label, value, small(int(value, base)) if re.fullmatch(digits, value) else None))
+    return fields
 
 
 class Collector:
@@ -150,7 +148,7 @@ class Collector:
         lines = [(line, block.file[1:-1]) for block in self.listing.blocks for line in block.lines]
         files = {line.number: file for line, file in lines if line.declared is not None}
         returns = {line.number: line for line, _ in lines if line.term == "Return" and line.method}
-        texts = {path: "\n".join(text_of(said)).encode() for path, said in texts_of(self.names, self.listing).items()}
+        texts = {path: "\n".join(text_of(said)).encode() for path, said in texts_of(self.decoder).items()}
         sums = {path: hashlib.sha256(text).hexdigest()[:16] for path, text in texts.items()}
         targets = []
         for row in self.listing.rows:
@@ -160,10 +158,11 @@ class Collector:
             stands = "maybe" if row.is_maybe else "always"
             # What a Name has, or a method returns that does nothing else
             only = returns.get(line.number + 1) if kind == "Method" and line.end == line.number + 2 else None
-            term = self.decoder.argument(line, 1) if kind == "Name" else self.decoder.argument(only, 0) if only else None
+            source, place = (line, 1) if kind == "Name" else (only, 0)
+            term = self.decoder.argument(source, place) if source else None
             is_value = term and CONSTANT_WORD.match(term.word) and not term.arguments and term.braced is None
-            value = term.word if term and is_value else None
-            self.add_name(row.path, kind, count, None, stands, row.times, value, sums[row.path], files[line.number], line.number)
+            values = term.word if term and is_value else None, sums[row.path], files[line.number], line.number
+            self.add_name(row.path, kind, count, None, stands, row.times, *values)
             if kind == "Alias":
                 targets.append((row.path, path_of(more)))
         others = [(path, *kind.partition(" ")[::2], "predefined") for path, kind in PREDEFINED.items()]
@@ -187,7 +186,7 @@ class Collector:
         for line in self.listing.lines:
             if line.term == "External" and not line.method:
                 _, kind, count = (*self.decoder.terms(line)[0].arguments, None, None, None)[:3]
-                path = name_of(line.words[1]).placed(line.scope) or ()
+                path = Name.of(line.words[1]).placed(line.scope) or ()
                 before, most = found.get(path, ("External", 0))
                 is_method = kind is not None and kind.number == METHOD_OBJECT or before == "Method"
                 found[path] = "Method" if is_method else before, max(most, (count.number if count else 0) or 0)
@@ -202,10 +201,10 @@ class Collector:
         count, serialized, level = flags if len(flags) == 3 else ("0", "", "0")
         is_raw = body.term == "Raw" and body.method is not None
         fault = self.faults.get(body.number) if is_raw else None
-        path = name_of(line.words[1]).placed(line.scope) or ()
+        path = Name.of(line.words[1]).placed(line.scope) or ()
         return self.add(
             "method", self.ids[path], number_in(count), int(serialized == "Serialized"), number_in(level), int(is_raw),
-            str(fault) if fault else None, name_at(fault, body), self.file, line.number,
+            str(fault) if fault else None, name_at(fault, body.code if is_raw else b""), self.file, line.number,
         )
 
     def add_region(self, line: Line) -> None:
@@ -217,29 +216,23 @@ class Collector:
             values = [None, "DataRegion", None, None, ", ".join(texts[1:]), ""]
         else:
             space, first, length = (one.number if one else None for one in (*arguments, None, None, None)[1:4])
-            values = [space, space_name(space) if space is not None else "", small(first), small(length), *(*texts, "", "")[2:4]]
+            name = space_name(space) if space is not None else ""
+            values = [space, name, small(first), small(length), *(*texts, "", "")[2:4]]
         anchor, name, path = self.declared(line)
         address = self.pci_address(line.scope) if values[0] == PCI_CONFIG else (None, None)
-        self.regions.setdefault(anchor, self.add("region", name, self.method, path, *values, *address, self.file, line.number))
-        if line.term != "DataRegion":
-            self.add_named(line, arguments[2:4])
+        number = self.add("region", name, self.method, path, *values, *address, self.file, line.number)
+        self.regions.setdefault(anchor, number)
+        for column, term in zip(REGION_NUMBERS, arguments[2:4] if line.term != "DataRegion" else ()):
+            meaning = self.decoder.meanings(line).get(term.place) if term and not term.arguments else None
+            if self.row_of(meaning) and not meaning.others:
+                self.named.append((self.rows["region"][-1], column, self.row_of(meaning)))
 
     def pci_address(self, scope: Path) -> tuple[int | None, int | None]:
         """The device and the function by the constant _ADR of the nearest device around (6.1.1)."""
         path = self.nearest(scope, ("Device",))
         name = self.ids.get((*path, "_ADR")) if path else None
-        value = self.rows["name"][name - 1][CONSTANT[-1]] if name else None
-        number = Term(value, 0).number if value else None
+        number = Term(self.rows["name"][name - 1][CONSTANT[-1]] or "", 0).number if name else None
         return (None, None) if number is None or number >> 32 else (number >> 16, number & 0xFFFF)
-
-    def add_named(self, line: Line, terms: list[Term | None]) -> None:
-        """Keeps which numbers of a region are values of names."""
-        meanings = self.decoder.meanings(line)
-        for column, term in zip(REGION_NUMBERS, terms):
-            meaning = meanings.get(term.place) if term and not term.arguments else None
-            name = self.ids.get(meaning.path) if meaning and meaning.path is not None and not meaning.others else None
-            if name and not meaning.anchor.isdigit():
-                self.named.append((self.rows["region"][-1], column, name))
 
     def add_constants(self) -> None:
         """The numbers of regions that are Names with a constant which nothing changes, as far as all bodies tell."""
@@ -254,11 +247,14 @@ class Collector:
 
     def declared(self, line: Line) -> tuple[str, int | None, str]:
         """The anchor of the name that a line declares, its row, and its path as text."""
-        place = line.declared % len(line.words) if line.declared is not None else 1
-        meaning = self.decoder.meanings(line).get(place)
+        meaning = self.decoder.declared(line)
         path = meaning.path if meaning and meaning.path is not None else ()
-        is_local = meaning is None or meaning.sort is Sort.LOCAL
-        return meaning.anchor if meaning else "", None if is_local else self.ids.get(path), path_text(path)
+        return meaning.anchor if meaning else "", self.row_of(meaning), path_text(path)
+
+    def row_of(self, meaning: Meaning | None) -> int | None:
+        """The row of the path that a name means, unless a body declares it."""
+        is_path = meaning and meaning.path is not None and not meaning.anchor.isdigit()
+        return self.ids.get(meaning.path) if is_path else None
 
     # ---- the lines
 
@@ -277,13 +273,10 @@ class Collector:
         scope = path_text(line.scope)
         for term, place in places(self.decoder.terms(line)):
             meaning = meanings.get(term.place)
-            if meaning is None or meaning.sort not in USING:
-                continue
-            for number, meant in enumerate((meaning, *meaning.others)):
-                is_local = meant.anchor.isdigit()
-                name = None if is_local or meant.path is None else self.ids.get(meant.path)
-                how = self.how(term, place, meant, is_local)
-                self.add("use", self.method, scope, term.word, name, int(is_local), number, how, self.file, line.number)
+            for number, meant in enumerate((meaning, *meaning.others) if meaning and meaning.sort in USING else ()):
+                is_local, how = meant.anchor.isdigit(), self.how(term, place, meant)
+                values = self.row_of(meant), int(is_local), number, how, self.file, line.number
+                self.add("use", self.method, scope, term.word, *values)
 
     def add_statements(self, line: Line) -> None:
         if STATEMENTS.keys().isdisjoint(line.words):
@@ -292,15 +285,14 @@ class Collector:
         for term, _ in places(self.decoder.terms(line)):
             if term.word in STATEMENTS:
                 named, counted = (term.argument(at) if at is not None else None for at in STATEMENTS[term.word])
-                meaning = meanings.get(named.place) if named else None
-                is_known = meaning and meaning.path is not None and not meaning.anchor.isdigit()
-                name, number = self.ids.get(meaning.path) if is_known else None, small(counted.number) if counted else None
-                text = line.text.strip(" ")[:LONGEST_STATEMENT]
-                self.add("statement", self.method, path_text(line.scope), term.word, name, number, text, self.file, line.number)
+                name = self.row_of(meanings.get(named.place)) if named else None
+                number, text = small(counted.number) if counted else None, line.bare[:LONGEST_STATEMENT]
+                values = term.word, name, number, text, self.file, line.number
+                self.add("statement", self.method, path_text(line.scope), *values)
 
-    def how(self, term: Term, place: Place, meant: Meaning, is_local: bool) -> str:
+    def how(self, term: Term, place: Place, meant: Meaning) -> str:
         """What becomes of what a name means: it is called, read, written, passed on, or named."""
-        is_method = not is_local and self.kinds.get(meant.path) == "Method" or bool(term.arguments)
+        is_method = not meant.anchor.isdigit() and self.kinds.get(meant.path) == "Method" or bool(term.arguments)
         if place.kind in "TR":
             return "called" if is_method else "read"
         if place.kind == "A" and place.within and place.within.word != "Connection":
@@ -334,8 +326,7 @@ class Collector:
     # ---- what bytes and numbers mean
 
     def device_of(self, line: Line) -> int | None:
-        path = self.nearest(line.scope, DEVICES)
-        return self.ids.get(path) if path else None
+        return self.ids.get(self.nearest(line.scope, DEVICES) or None)
 
     def nearest(self, path: Path, kinds: tuple[str, ...]) -> Path:
         """The nearest path around a scope that is of one of these kinds."""
@@ -354,8 +345,8 @@ class Collector:
         for one, patches in [pair for it in templates for pair in zip(it.descriptors, it.patches)]:
             resource = self.add(
                 "resource", device, object_path, one.kind, small(one.first), small(one.last), small(one.length),
-                ", ".join(map(str, one.lines)) or None, self.controller(one.source, line.scope), *wires_of(one), one.text,
-                ", ".join(dict.fromkeys(patches)) or None, self.file, line.number,
+                ", ".join(map(str, one.lines)) or None, self.controller(one.source, line.scope), *wires_of(one),
+                one.text, ", ".join(dict.fromkeys(patches)) or None, self.file, line.number,
             )
             for pin in one.lines if one.kind in PINNED else ():
                 self.add("pin", resource, pin)
@@ -365,16 +356,15 @@ class Collector:
         form = SOURCE.fullmatch(source)
         if not form:
             return source or None
-        name = name_of(form[1] + ".".join(part.ljust(4, "_") for part in form[2].split(".")))
+        name = Name.of(form[1] + ".".join(part.ljust(4, "_") for part in form[2].split(".")))
         device = self.nearest(scope, DEVICES)
         paths = self.names.find(device, name) or name.candidates(device)[-1:]
         return path_text(paths[0]) if paths else source
 
     def add_identifiers(self, line: Line) -> None:
         for text in self.decoder.identifiers(line):
-            device = self.device_of(line)
-            name, number = hardware_name(line), eisa_number(text)
-            self.add("identifier", device, name, text, number, DEVICE_NAMES.get(text), self.file, line.number)
+            values = hardware_name(line), text, eisa_number(text), DEVICE_NAMES.get(text), self.file, line.number
+            self.add("identifier", self.device_of(line), *values)
 
 
 def wires_of(one: Descriptor) -> tuple[int | None, str | None, str | None]:

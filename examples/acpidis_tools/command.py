@@ -1,4 +1,4 @@
-"""What all scripts have of a command: the words of its line, the options of acpidis that it passes on, and how it ends."""
+"""What all scripts have of a command: the words of its line, the options of acpidis that it passes on, its end."""
 
 import argparse
 import contextlib
@@ -22,22 +22,24 @@ SEGMENT = re.compile(r"[A-Z_][A-Z0-9_]{0,3}")
 PACKED = (b"\x1f\x8b", b"BZh", b"\xfd7zXZ", b"PK\3\4", b"\x28\xb5\x2f\xfd")
 
 
+class Parser(argparse.ArgumentParser):
+    """A command line, of whose faults is told as of all others."""
+
+    def error(self, message):
+        self.print_usage(sys.stderr)
+        tell(message)
+        sys.exit(AT_FAULT)
+
+
 def parser(about, *names, **more):
     """The command line of a script, with words of these names, whose help is what its first lines say. Where it is
     installed it has another name there."""
-    made = argparse.ArgumentParser(description=about, formatter_class=argparse.RawDescriptionHelpFormatter, **more)
+    made = Parser(description=about, formatter_class=argparse.RawDescriptionHelpFormatter, **more)
     if made.prog.startswith("acpidis-"):
         made.description = re.sub(r"(?:python3 )?examples/(\w+)\.py", r"acpidis-\1", about)
     for name in names:
         made.add_argument(name.lower(), metavar=name)
     return made
-
-
-def folder_parser(about, own=""):
-    """That of a script that reads a folder, with options of its own."""
-    words = parser(about, "FOLDER", usage=f"%(prog)s {own}[OPTION..] FOLDER")
-    words.set_defaults(options={})
-    return words
 
 
 def path_of(word):
@@ -69,8 +71,8 @@ class Keep(argparse.Action):
 def parse(words, but=()):
     """What the command line asks for, with the options of acpidis in `options`, but for those that the script has
     itself or can't do with. Only where an option isn't the script's own is acpidis asked which it has."""
-    _, more = words.parse_known_args()
-    if any(word.startswith("-") for word in more):
+    words.set_defaults(options={})
+    if any(word.startswith("-") for word in words.parse_known_args()[1]):
         for option, value in known().items():
             if option not in (*NO_LISTING, *but):
                 takes = {"metavar": value} if value else {"nargs": 0}
@@ -106,8 +108,8 @@ class Progress:
 
 
 def run(main):
-    """Runs the main function of a script, and writes out what it printed. Where a file is at fault, writing fails, or memory
-    ends, it ends in a line."""
+    """Runs the main function of a script, and writes out what it printed. Where a file is at fault, writing fails, or
+    memory ends, it ends in a line."""
     try:
         # Standard output may be closed. With PYTHONUNBUFFERED a write of a part would pass for one of the whole.
         how = {"encoding": sys.stdout.encoding, "errors": sys.stdout.errors} if sys.stdout else {}
@@ -146,27 +148,22 @@ def read(file):
 
 
 @contextlib.contextmanager
-def naming(file):
-    """Gives faults the name of what is written, in place of that of the part that becomes it, or of none."""
+def whole(place):
+    """A part that becomes a file, or a folder, as a whole or not at all. Faults have the name of what is written."""
     try:
-        yield
+        with tempfile.TemporaryDirectory(prefix=".part", dir=os.path.dirname(os.path.abspath(place))) as room:
+            part = pathlib.Path(room, "part")
+            yield part
+            os.replace(part, place)
     except OSError as fault:
-        fault.filename = file
+        fault.filename = place
         raise
 
 
 def write(file, data):
-    """Writes a file as a whole, or not at all."""
-    folder = os.path.dirname(os.path.abspath(file))
-    with naming(file), tempfile.NamedTemporaryFile(dir=folder, prefix=".part", delete=False) as part:
-        try:
-            part.write(data)
-            part.close()
-            os.chmod(part.name, 0o644)
-            os.replace(part.name, file)
-        except BaseException:
-            os.unlink(part.name)
-            raise
+    with whole(file) as part:
+        part.write_bytes(data)
+        part.chmod(0o644)
 
 
 def tell(text):

@@ -3,12 +3,13 @@
 from __future__ import annotations
 
 import hashlib
-import re
 from collections import Counter, namedtuple
 from difflib import SequenceMatcher
+from functools import lru_cache
 
-from acpidis_tools.listing import Dump, Line, Listing, Path, path_text
-from acpidis_tools.names import FIELD_LISTS, FIRST_WORD, SCOPES, Names
+from acpidis_tools.decoding import Decoder
+from acpidis_tools.listing import Dump, Line, Path, path_text
+from acpidis_tools.names import FIRST_WORD, SCOPES
 
 LONGEST = 200
 # Of more pairs of lines the longest common ones aren't looked for: that takes time as their product.
@@ -20,8 +21,8 @@ Text = tuple[str, ...]
 
 class Comparison(namedtuple("Comparison", "other adds lacks changes here lines tables")):
     """What another listing says: the texts of the paths that it adds and of those that it changes, and the paths that
-    it lacks, with the texts here of those that it changes; the numbers of the lines here that differ; and of the tables,
-    by their files, the lines that it alone has, None where it has no such file."""
+    it lacks, with the texts here of those that it changes; the numbers of the lines here that differ; and of the
+    tables, by their files, the lines that it alone has, None where it has no such file."""
 
     def mark(self, path: Path) -> str:
         """How a path differs, in a word, and nothing where it doesn't."""
@@ -29,11 +30,11 @@ class Comparison(namedtuple("Comparison", "other adds lacks changes here lines t
         return next((word for word, paths in kinds.items() if path in paths), "")
 
 
-def compare(one: Names, one_listing: Listing, other: Names, other_listing: Listing, name: str) -> Comparison:
-    here, there = texts_of(one, one_listing), texts_of(other, other_listing)
+def compare(one: Decoder, other: Decoder, name: str) -> Comparison:
+    here, there = texts_of(one), texts_of(other)
     changed = [path for path in sorted(here.keys() & there.keys()) if text_of(here[path]) != text_of(there[path])]
     lines = {number for path in changed for number in different_lines(here[path], text_of(there[path]))}
-    tables, table_lines = compare_tables(one_listing.dumps, other_listing.dumps)
+    tables, table_lines = compare_tables(one.listing.dumps, other.listing.dumps)
     adds = {path: text_of(there[path]) for path in sorted(there.keys() - here.keys())}
     ours, theirs = ({path: text_of(texts[path]) for path in changed} for texts in (here, there))
     return Comparison(name, adds, here.keys() - there.keys(), theirs, ours, lines | table_lines, tables)
@@ -52,7 +53,7 @@ def alike(here: Text, there: Text) -> tuple[int, int]:
 
 
 def differences(here: Text, there: Text) -> list[tuple[str, str]]:
-    """The lines of two texts in their order, each with `del` where the first alone has it, and `ins` where the second."""
+    """The lines of two texts in their order, each with `del` where the first alone has it, `ins` where the second."""
     first, last = alike(here, there)
     ours, theirs = here[first:len(here) - last], there[first:len(there) - last]
     found = [("", line) for line in here[:first]]
@@ -78,47 +79,34 @@ def different_lines(here: Said, there: Text) -> list[int]:
     return numbers
 
 
-def texts_of(names: Names, listing: Listing) -> dict[Path, Said]:
+def texts_of(decoder: Decoder) -> dict[Path, Said]:
     """The marks of each path's row and the text of its declarations, without the paths that are declared inside it."""
-    texts = {row.path: [(row.number, row.marks)] if row.marks else [] for row in listing.rows}
-    places = unit_places(listing)
-    by_number = {line.number: line for line in listing.lines}
-    for path, lines in names.declarations.items():
-        texts[path] += (said for line in lines for said in declaration_text(line, path, places, by_number))
+    texts = {row.path: [(row.number, row.marks)] if row.marks else [] for row in decoder.listing.rows}
+    by_number = {line.number: line for line in decoder.listing.lines}
+    for path, lines in decoder.names.declarations.items():
+        texts[path] += (said for line in lines for said in declaration_text(line, path, decoder, by_number))
     return texts
 
 
-def declaration_text(line: Line, path: Path, places: dict[int, str], by_number: dict[int, Line]) -> Said:
+def declaration_text(line: Line, path: Path, decoder: Decoder, by_number: dict[int, Line]) -> Said:
     # The path stands in place of the name, which may stand in another scope.
     pieces = list(line.pieces)
     pieces[2 * (line.declared % len(line.words)) + 1] = path_text(path)
     head = line.number, "".join(pieces)
     if line.declared == FIRST_WORD:
-        return [(line.number, places[line.number]), head]
+        unit = decoder.units[line.number]
+        place = f"{shortened(unit.head)} {shortened(unit.behind) if unit.behind else ''} bit {unit.bit}"
+        return [(line.number, place), head]
     if line.end and line.term not in SCOPES:
         inside = (by_number[number] for number in range(line.number + 1, line.end + 1))
         return [head, *((inner.number, inner.text[2 * line.depth:]) for inner in inside)]
     return [head]
 
 
-def unit_places(listing: Listing) -> dict[int, str]:
-    """Where each line of a field list stands: the list's head, the access before it, and the bits in front of it."""
-    places, head, access, bits = {}, "", "", 0
-    for line in listing.lines:
-        if line.term in FIELD_LISTS:
-            head, access, bits = shortened("".join(line.pieces)), "", 0
-        if line.declared == FIRST_WORD:
-            places[line.number] = f"{head} {access} bit {bits}"
-        size = re.fullmatch(r", ([0-9]{1,9})", line.pieces[-1])
-        if size:
-            bits += int(size[1])
-        elif line.term in ("Access", "ExtendedAccess", "Connection"):
-            access = shortened("".join(line.pieces))
-    return places
-
-
-def shortened(text: str) -> str:
-    """A text that stands before each unit of a list: a long one by its sum, so that all of them take little room."""
+@lru_cache(maxsize=2)
+def shortened(line: Line) -> str:
+    """A line that stands before each unit of a list: a long one by its sum, so that all of them take little room."""
+    text = line.bare
     return text if len(text) <= LONGEST else f"{text[:LONGEST]}.. {hashlib.sha256(text.encode()).hexdigest()}"
 
 

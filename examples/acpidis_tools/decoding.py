@@ -29,8 +29,9 @@ FIELD_BITS = {
 }
 
 
-# A unit of a field list: the line of the list, its first bit and its width, and how it is accessed
-Unit = namedtuple("Unit", "head bit width access")
+# A unit of a field list: the line of the list, its first bit and its width, how it is accessed, and the line before it
+# that says so, if one does
+Unit = namedtuple("Unit", "head bit width access behind")
 
 
 class Template(namedtuple("Template", "descriptors patches")):
@@ -46,11 +47,11 @@ class Template(namedtuple("Template", "descriptors patches")):
 
 class Decoder:
     """`terms` keeps those of a line that was asked for last, `patches` has the fields that are made of a buffer, by the
-    anchor of its name: first bit, the bit behind the last, and the field's name. `units` are those of field lists by the
-    numbers of their lines, `returned` has the last segments of the methods that return a name, by its anchor."""
+    anchor of its name: first bit, the bit behind the last, and the field's name. `units` are those of field lists by
+    the numbers of their lines, `returned` has the last segments of the methods that return a name, by its anchor."""
 
     def __init__(self, listing: Listing, names: Names):
-        self.names = names
+        self.listing, self.names = listing, names
         self.patches: dict[str, list[tuple[int, int, str]]] = defaultdict(list)
         self.units: dict[int, Unit] = {}
         self.returned: dict[str, str] = {}
@@ -59,23 +60,26 @@ class Decoder:
             self.read(block.lines)
 
     def read(self, lines: list[Line]) -> None:
-        head, access, bit = None, "", 0
+        access, bit, behind = "", 0, None
         for line in lines:
-            if head and line.number >= head.end:
-                head = None
             if line.term in FIELD_LISTS:
-                head, access, bit = line, flag_words(self.terms(line))[0], 0
-            elif head:
+                access, bit, behind = flag_words(self.terms(line))[0], 0, None
+            elif line.term and line.above and line.above.term in FIELD_LISTS:
+                if line.term in ("Access", "ExtendedAccess", "Connection"):
+                    behind = line
                 # The access that the units behind an Access line have
                 kind = self.argument(line, 0) if line.term in ("Access", "ExtendedAccess") else None
                 access = named(ACCESS_TYPES, (kind.number or 0) & 0x0F) if kind else access
                 form = UNIT.fullmatch(line.pieces[-1])
                 width = int(form[1]) if form else 0
                 if line.declared == FIRST_WORD:
-                    self.units[line.number] = Unit(head, bit, width, access)
+                    self.units[line.number] = Unit(line.above, bit, width, access, behind)
                 bit += width
             elif line.term.startswith("Create"):
-                self.add_patch(line)
+                source, (first, bits) = self.argument(line, 0), self.bits_of(line)
+                meaning = self.meanings(line).get(source.place) if source else None
+                if meaning and meaning.anchor and first is not None and bits is not None:
+                    self.patches[meaning.anchor].append((first, first + bits, line.words[-1]))
             elif line.term == "Return" and line.method and line.method[-1] in objects.MAKERS and len(line.words) == 2:
                 meaning = self.meanings(line).get(1)
                 if meaning and meaning.anchor:
@@ -95,12 +99,9 @@ class Decoder:
         places_of_names = (place for place, word in enumerate(line.words) if is_name(word))
         return dict(zip(places_of_names, self.names.meanings[line.number]))
 
-    def add_patch(self, line: Line) -> None:
-        source = self.argument(line, 0)
-        meaning = self.meanings(line).get(source.place) if source else None
-        first, bits = self.bits_of(line)
-        if meaning and meaning.anchor and first is not None and bits is not None:
-            self.patches[meaning.anchor].append((first, first + bits, line.words[-1]))
+    def declared(self, line: Line) -> Meaning | None:
+        """The meaning of the name that a line declares."""
+        return None if line.declared is None else self.meanings(line).get(line.declared % len(line.words))
 
     def bits_of(self, line: Line) -> tuple[int | None, int | None]:
         """The first bit and the width of what a Create term makes, each where it is constant."""

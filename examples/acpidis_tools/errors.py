@@ -14,6 +14,10 @@ FAULT = re.compile(rf"acpidis: body ({PATH}): ([A-Z][A-Za-z]+)(?: at ([0-9]{{1,9
 
 
 class Fault(namedtuple("Fault", "word at")):
+    @classmethod
+    def of(cls, form: re.Match) -> Fault:
+        return cls(form[2], int(form[3]) if form[3] else None)
+
     def __str__(self) -> str:
         return self.word if self.at is None else f"{self.word} at {self.at}"
 
@@ -41,25 +45,19 @@ def read_errors(text: bytes, listing: Listing) -> dict[int, Fault]:
         path = path_of(form[1])
         if not raw[path]:
             raise NoListing(f"line {number}: the body of {path_text(path)[:MOST_SHOWN]} isn't raw in the listing")
-        faults[raw[path].popleft()] = Fault(form[2], int(form[3]) if form[3] else None)
+        faults[raw[path].popleft()] = Fault.of(form)
     left = min((numbers[0] for numbers in raw.values() if numbers), default=None)
     if left is not None:
         raise NoListing(f"it says nothing of the raw body in line {left} of the listing")
     return faults
 
 
-def name_at(fault: Fault | None, body: Line) -> str | None:
-    """The name that a raw body waits for, by its fault."""
+def name_at(fault: Fault | None, code: bytes) -> str | None:
+    """The name that a raw body of these bytes waits for (docs/names.md), by its fault; None where none stands there."""
     if not fault or fault.word != "UnknownName" or fault.at is None:
         return None
-    name = name_in(bytes.fromhex("".join(body.pieces[2:]).strip(" {}").replace(",", ""))[fault.at :])
-    return str(name) if name else None
-
-
-def name_in(code: bytes) -> aml.Name | None:
-    """The name that stands at the front of the bytes (docs/names.md), and nothing where none does."""
     try:
-        name, _ = aml.Reader(0, code, aml.Space(0)).name(0, len(code))
+        name, _ = aml.Reader(0, code, aml.Space(0)).name(fault.at, len(code))
     except aml.Stopped:
         return None
-    return name if name.segments else None
+    return str(name) if name.segments else None

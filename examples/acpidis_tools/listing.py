@@ -12,11 +12,12 @@ from collections import namedtuple
 from typing import BinaryIO
 
 SEGMENT = r"[A-Z_][A-Z0-9_]{3}"
-NAME = rf"(?:\\|\^+)?{SEGMENT}(?:\.{SEGMENT})*(?!\w)|\\|\^+"
+NAME = re.compile(rf"(?:\\|\^+)?{SEGMENT}(?:\.{SEGMENT})*(?!\w)|\\|\^+")
 TEXT = r'"[^"]*"'
-# A name has no small letter, and the word of each opcode has one.
-WORD = re.compile(rf"({TEXT}|0x[0-9A-F]+|{NAME}|[A-Z](?=[A-Z]{{0,30}}[a-z])[A-Za-z]{{1,30}}[0-9]?)")
-BETWEEN = re.compile(r"[ (){},0-9A-F]*")
+# A name has no small letter, and the word of each opcode has one. To look at the first sign of each saves time.
+OPCODE = r"[A-Z](?=[A-Z]{0,30}[a-z])[A-Za-z]{1,30}[0-9]?"
+WORD = re.compile(rf'(?=["0A-Z_\\^])({TEXT}|0x[0-9A-F]+|{NAME.pattern}|{OPCODE})')
+BETWEEN = " (){},0123456789ABCDEF"
 PATH = rf"\\(?:{SEGMENT}(?:\.{SEGMENT})*)?"
 # With --any-run a row may have two marks: what only may stand, and what is declared several times.
 ROW = re.compile(rf"  ({PATH}) ([A-Z][A-Za-z]+(?: [0-7]| {PATH})?)( Maybe)?(?: Times ([1-9][0-9]{{0,8}}))?")
@@ -32,7 +33,8 @@ HEADER = re.compile(
 )
 OPCODES = (pathlib.Path(__file__).parent / "opcodes.txt").read_text()
 # With what a line of a block begins that is no name: the word of an opcode, a constant, or what stands in a field list
-TERMS = {*re.findall(r"^[0-9A-F]+ (\w+)", OPCODES, re.MULTILINE), "Raw", "Reserved", "Access", "ExtendedAccess", "Connection"}
+TERMS = {"Raw", "Reserved", "Access", "ExtendedAccess", "Connection"}
+TERMS.update(re.findall(r"^[0-9A-F]+ (\w+)", OPCODES, re.MULTILINE))
 BLOCK = re.compile(rf"DefinitionBlock \(({TEXT})\) {{")
 OF_SHELL = ("/dev/stdin", "/dev/fd/", "/dev/null", "/proc/")
 DEFINITION_BLOCKS = ('"DSDT"', '"SSDT"')
@@ -60,16 +62,18 @@ def path_text(path: Path) -> str:
 
 
 class Line:
-    """A line of a definition block: every second of its pieces is a word. It may open a block, up to the line `end`.
+    """A line of a definition block: every second of its pieces is a word. It may open a block, up to the line `end`,
+    and stands in that of the line `above`. `term` is the opcode's word or the name that it begins with, and nothing for
+    the end of a block.
 
     `scope` is where its names are read, `method` the path of the method in whose body it stands, `declared` the place
     among its words of the name that it declares."""
 
-    __slots__ = ("number", "depth", "pieces", "end", "scope", "method", "declared")
+    __slots__ = ("number", "depth", "pieces", "above", "term", "end", "scope", "method", "declared")
 
-    def __init__(self, number: int, depth: int, pieces: list[str]):
-        self.number, self.depth, self.pieces = number, depth, pieces
-        self.end = 0
+    def __init__(self, number: int, depth: int, pieces: list[str], above: Line | None):
+        self.number, self.depth, self.pieces, self.above = number, depth, pieces, above
+        self.term, self.end = pieces[1] if len(pieces) > 1 else "", 0
         self.scope: Path = ROOT
         self.method: Path | None = None
         self.declared: int | None = None
@@ -79,13 +83,26 @@ class Line:
         return self.pieces[1::2]
 
     @property
-    def term(self) -> str:
-        """The opcode's word or the name that the line begins with, and nothing for the end of a block."""
-        return self.pieces[1] if len(self.pieces) > 1 else ""
+    def heads(self) -> list[Line]:
+        """The heads of the blocks around it, the outer first."""
+        heads, line = [], self.above
+        while line:
+            heads.append(line)
+            line = line.above
+        return heads[::-1]
+
+    @property
+    def bare(self) -> str:
+        return "".join(self.pieces)
 
     @property
     def text(self) -> str:
-        return "  " * self.depth + "".join(self.pieces)
+        return "  " * self.depth + self.bare
+
+    @property
+    def code(self) -> bytes:
+        """The bytes of a raw body."""
+        return bytes.fromhex(self.pieces[2].strip(" {}").replace(",", ""))
 
 
 # The line of a dump, its file and its signature, and the lines below it, with their numbers
@@ -158,10 +175,10 @@ class Reader:
         head = BLOCK.fullmatch(self.peek())
         if not head:
             raise self.refuse()
-        lines = [self.line(0)]
+        lines = [self.line(None)]
         opened = [lines[0]]
         while opened:
-            line = self.line(len(opened))
+            line = self.line(opened[-1])
             lines.append(line)
             if line.pieces == ["}"]:
                 opened.pop().end = line.number
@@ -169,21 +186,20 @@ class Reader:
                 opened.append(line)
         return Block(head[1], lines)
 
-    def line(self, depth: int) -> Line:
-        """The next line, inside so many blocks: what closes the innermost stands one level above."""
+    def line(self, above: Line | None) -> Line:
+        """The next line, in the block of another one: what closes that stands at its level."""
         text = self.peek()
         bare = text.lstrip(" ")
-        if bare == "}":
-            depth -= 1
-        pieces = WORD.split(bare)
+        depth = above.depth + (bare != "}") if above else 0
+        pieces = WORD.split(bare) if bare != "}" else ["}"]
         is_wrong = len(text) - len(bare) != 2 * depth or len(pieces) == 1 and bare != "}"
         is_wrong = is_wrong or bare.startswith("Raw") and not RAW.fullmatch(bare)
         # A name has no small letter.
         is_wrong = is_wrong or depth and bare[0].isupper() and bare[1].islower() and pieces[1] not in TERMS
-        if is_wrong or not all(map(BETWEEN.fullmatch, pieces[::2])):
+        if is_wrong or "".join(pieces[::2]).strip(BETWEEN):
             raise self.refuse()
         self.at += 1
-        return Line(self.at, depth, pieces)
+        return Line(self.at, depth, pieces, above)
 
 
 def check_file(file: str) -> None:
@@ -225,7 +241,7 @@ def reader_of(text: bytes) -> Reader:
 
 
 def read_dumps(text: bytes) -> tuple[list[Dump], list[str], int]:
-    """The dumps of a listing alone, the files of its definition blocks, and how many lines stand above its namespace."""
+    """The dumps of a listing, the files of its definition blocks, and how many lines stand above its namespace."""
     reader = reader_of(text)
     dumps = reader.dumps()
     return dumps, [form[1] for form in map(BLOCK.fullmatch, reader.lines[reader.at:]) if form], reader.at

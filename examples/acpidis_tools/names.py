@@ -5,10 +5,10 @@ from __future__ import annotations
 from collections import defaultdict, namedtuple
 from collections.abc import Container
 from enum import Enum
-from functools import lru_cache
 
 from acpidis_tools import aml, standard
 from acpidis_tools.listing import ROOT, Line, Listing, NoListing, Path, path_text
+from acpidis_tools.paths import Name
 
 PREDEFINED = {ROOT: "Scope", **{(segment,): kind for segment, kind in standard.PREDEFINED.items()}}
 SCOPES, FIELD_LISTS = aml.OPENERS, aml.FIELD_LISTS
@@ -37,42 +37,22 @@ NOWHERE = Meaning(Sort.NOTHING)
 Uses = dict[Path, list[int]]
 
 
-class Name(namedtuple("Name", "is_rooted ups segments")):
-    def placed(self, scope: Path) -> Path | None:
-        if self.is_rooted:
-            return self.segments
-        return None if self.ups > len(scope) else scope[:len(scope) - self.ups] + self.segments
-
-    def candidates(self, scope: Path) -> list[Path]:
-        if not self.is_rooted and not self.ups and len(self.segments) == 1:
-            return [scope[:length] + self.segments for length in range(len(scope), -1, -1)]
-        path = self.placed(scope)
-        return [] if path is None else [path]
-
-
 def is_name(word: str) -> bool:
     return word[0] not in '"0' and word == word.upper()
 
 
-@lru_cache(maxsize=None)
-def name_of(text: str) -> Name:
-    bare = text.lstrip("\\^")
-    ups = 0 if text.startswith("\\") else len(text) - len(bare)
-    return Name(text.startswith("\\"), ups, tuple(bare.split(".")) if bare else ROOT)
-
-
-# A block that is open: the line that ends it, where the terms inside it stand, and whether these are sure to
-Open = namedtuple("Open", "end scope method is_field_list is_sure")
+# Where the terms inside a block stand, and whether these are sure to
+Inside = namedtuple("Inside", "scope method is_sure")
 
 
 class Names:
     """The paths of a listing, and the meanings of its names.
 
     `lines` has the line at which each path is declared first, `declarations` all of them, `sure` the paths of which one
-    stands in every run, `terms` what declares each path up to the first that is sure, `externals` the first that names a
-    path where none declares it, `led` where Scopes and Aliases lead, `then` what a name that runs outside the methods meant
-    there, `meanings` the meanings of each line's names in their order, `uses` the lines from which names lead to an anchor,
-    by the method, or the scope, that they stand in, and `strays` the same of names that lead nowhere, by the name."""
+    stands in every run, `terms` what declares each path up to the first that is sure, `externals` the first that names
+    a path where none declares it, `led` where Scopes and Aliases lead, `then` what a name that runs outside the methods
+    meant there, `meanings` those of each line's names in their order, `uses` the lines from which names lead to an
+    anchor, by the method, or the scope, that they stand in, and `strays` the same of names that lead nowhere."""
 
     def __init__(self, listing: Listing, most_others: int = MOST_OTHERS):
         self.most_others = most_others
@@ -133,34 +113,31 @@ class Names:
 
     def load(self, lines: list[Line]) -> None:
         """Says of each line where it stands, and what it declares."""
-        opened = [Open(lines[0].end, ROOT, None, False, True)]
+        opened = {lines[0]: Inside(ROOT, None, True)}
         for line in lines[1:]:
-            while line.number > opened[-1].end:
-                opened.pop()
-            inner = opened[-1]
-            line.scope, line.method = inner.scope, inner.method
+            line.scope, line.method, is_sure = opened[line.above]
             if not line.term:
                 continue
-            line.declared = FIRST_WORD if inner.is_field_list and is_name(line.term) else DECLARED.get(line.term)
-            within, is_sure = (inner.scope, True) if line.method else self.declare(line, inner)
+            is_unit = line.above.term in FIELD_LISTS and is_name(line.term)
+            line.declared = FIRST_WORD if is_unit else DECLARED.get(line.term)
+            within, is_sure = (line.scope, True) if line.method else self.declare(line, is_sure)
             if line.end:
-                method = within if line.term == "Method" else line.method
-                opened.append(Open(line.end, within, method, line.term in FIELD_LISTS, is_sure))
+                opened[line] = Inside(within, within if line.term == "Method" else line.method, is_sure)
 
-    def declare(self, line: Line, inner: Open) -> tuple[Path, bool]:
+    def declare(self, line: Line, is_sure: bool) -> tuple[Path, bool]:
         """Declares what a line outside the bodies declares, and says where the terms inside it stand, and whether these
         are sure to."""
         if line.declared is not None:
-            return self.declare_path(line, inner.is_sure)
+            return self.declare_path(line, is_sure)
         if line.term == "External":
             self.externals.setdefault(self.place(line, word_at(line, 1)), line)
         elif line.term == "Scope":
             path = self.led[line.number] = self.lead(line, line.words[1] if len(line.words) > 1 else "")
-            return path, inner.is_sure and self.is_sure(path) and self.is_scope(path)
-        elif not inner.is_field_list and line.term not in FIELD_LISTS:
+            return path, is_sure and self.is_sure(path) and self.is_scope(path)
+        elif FIELD_LISTS.isdisjoint((line.above.term, line.term)):
             for word in filter(is_name, line.words):
-                self.then[line.number, word] = self.find(line.scope, name_of(word))
-        return line.scope, inner.is_sure and line.term not in BLOCKS
+                self.then[line.number, word] = self.find(line.scope, Name.of(word))
+        return line.scope, is_sure and line.term not in BLOCKS
 
     def declare_path(self, line: Line, is_sure: bool) -> tuple[Path, bool]:
         path = self.place(line, word_at(line, line.declared))
@@ -182,7 +159,7 @@ class Names:
         return path if line.term == "Method" else line.scope, is_sure
 
     def place(self, line: Line, word: str) -> Path:
-        path = name_of(word).placed(line.scope)
+        path = Name.of(word).placed(line.scope)
         if path is None or word and not is_name(word):
             raise NoListing(f"line {line.number} declares nothing that a listing of acpidis can")
         if len(path) > MOST_SEGMENTS:
@@ -190,9 +167,9 @@ class Names:
         return path
 
     def lead(self, line: Line, word: str) -> Path:
-        """Where the source of an Alias, or the name of a Scope, leads by what stands before it: a Scope of nothing opens
-        the path at which it is placed."""
-        found = self.find(line.scope, name_of(word))
+        """Where the source of an Alias, or the name of a Scope, leads by what stands before it: a Scope of nothing
+        opens the path at which it is placed."""
+        found = self.find(line.scope, Name.of(word))
         if not found and line.term == "Alias":
             raise NoListing(f"line {line.number}: {word} leads nowhere")
         return found[0] if found else self.place(line, word)
@@ -211,26 +188,22 @@ class Names:
                 units = {}
             if line.method and line.term in FIELD_LISTS:
                 end_of_units = line.end
-            self.meanings[line.number] = meanings = self.meanings_of(line, own)
+            declared = -1 if line.declared is None else line.declared % len(line.words)
+            self.meanings[line.number] = meanings = [
+                self.declaration(line, word) if place == declared else self.meaning(line, word, own)
+                for place, word in enumerate(line.words) if is_name(word)
+            ]
             for word, meaning in zip(filter(is_name, line.words), meanings):
                 if meaning.sort is Sort.LOCAL and meaning.path is not None:
                     (units if line.declared == FIRST_WORD else own)[meaning.path] = line.number
-                elif meaning.sort is Sort.LEADS:
-                    for meant in (meaning, *meaning.others):
-                        add_use(self.uses[meant.anchor], line)
-                elif meaning.sort is Sort.NOTHING:
-                    add_use(self.strays[word], line)
-
-    def meanings_of(self, line: Line, own: dict[Path, int]) -> list[Meaning]:
-        words = line.words
-        declared = -1 if line.declared is None else line.declared % len(words)
-        return [
-            self.declaration(line, word) if place == declared else self.meaning(line, word, own)
-            for place, word in enumerate(words) if is_name(word)
-        ]
+                used = [self.uses[meant.anchor] for meant in (meaning, *meaning.others) if meant.sort is Sort.LEADS]
+                for uses in [self.strays[word]] if meaning.sort is Sort.NOTHING else used:
+                    numbers = uses[line.method or line.scope]
+                    if numbers[-1:] != [line.number]:
+                        numbers.append(line.number)
 
     def declaration(self, line: Line, word: str) -> Meaning:
-        path = name_of(word).placed(line.scope)
+        path = Name.of(word).placed(line.scope)
         if line.method:
             return Meaning(Sort.LOCAL, path, str(line.number))
         is_first = path is None or self.lines[path] is line
@@ -247,10 +220,10 @@ class Names:
         if self.then.get((line.number, word)):
             return self.leading_to(self.then[line.number, word], own)
         if own:
-            return self.leading_to(self.find(line.scope, name_of(word), own), own)
+            return self.leading_to(self.find(line.scope, Name.of(word), own), own)
         key = line.scope, word
         if key not in self.found:
-            self.found[key] = self.leading_to(self.find(line.scope, name_of(word)), own)
+            self.found[key] = self.leading_to(self.find(line.scope, Name.of(word)), own)
         return self.found[key]
 
     def leading_to(self, paths: list[Path], own: dict[Path, int]) -> Meaning:
@@ -263,12 +236,6 @@ def word_at(line: Line, place: int) -> str:
     if place >= len(line.words):
         raise NoListing(f"line {line.number} isn't one of a listing of acpidis")
     return line.words[place]
-
-
-def add_use(uses: Uses, line: Line) -> None:
-    numbers = uses[line.method or line.scope]
-    if not numbers or numbers[-1] != line.number:
-        numbers.append(line.number)
 
 
 def leading(path: Path, anchor: str = "") -> Meaning:

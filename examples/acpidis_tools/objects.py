@@ -1,12 +1,12 @@
-"""The packages and buffers of some predefined objects in words, a row for each of their parts: _PRT, _DSD, _PLD and _UPC of the ACPI
-Specification 6.5, and _WDG, by which Windows finds what a device has for WMI."""
+"""The packages and buffers of some predefined objects in words, a row for each of their parts: _PRT, _DSD, _PLD and
+_UPC of the ACPI Specification 6.5, and _WDG, by which Windows finds what a device has for WMI."""
 
 from __future__ import annotations
 
 import uuid
 from collections.abc import Iterator
 
-from acpidis_tools.standard import UUID_LENGTH, WORDS, uuid_text, uuid_with_name
+from acpidis_tools.standard import UUID_LENGTH, WORDS, escaped, uuid_text, uuid_with_name
 from acpidis_tools.terms import Term
 
 ALL_FUNCTIONS, PINS = 0xFFFF, "ABCD"
@@ -34,7 +34,8 @@ class NoForm(Exception):
 
 
 def elements(term: Term | None) -> list[Term]:
-    if term is None or term.word not in ("Package", "VarPackage") or not isinstance(term.braced, list) or None in term.braced:
+    is_package = term is not None and term.word in ("Package", "VarPackage") and isinstance(term.braced, list)
+    if not is_package or None in term.braced:
         raise NoForm
     return term.braced
 
@@ -58,7 +59,8 @@ def prt(value: Term) -> Iterator[str]:
         if index is None or number(pin) >= len(PINS):
             raise NoForm
         function = number(address) & 0xFFFF
-        device = f"device 0x{number(address) >> 16:02X}" + (f" function {function}" if function != ALL_FUNCTIONS else "")
+        of = f" function {function}" if function != ALL_FUNCTIONS else ""
+        device = f"device 0x{number(address) >> 16:02X}{of}"
         is_link = source.number is None
         to = source.word if is_link else f"interrupt {number(index)}"
         yield f"{device} INT{PINS[number(pin)]} to {to}" + (f" {number(index)}" if is_link and index.number else "")
@@ -112,7 +114,8 @@ def pld(value: Term) -> Iterator[str]:
             words.append(SHAPES[bits(74, 4)])
         if bits(79, 8) or bits(87, 8):
             words.append(f"group {bits(79, 8)} position {bits(87, 8)}")
-        words += [word for bit, word in ((95, "bay"), (96, "ejectable"), (97, "ejection by the system")) if bits(bit, 1)]
+        ejection = (95, "bay"), (96, "ejectable"), (97, "ejection by the system")
+        words += [word for bit, word in ejection if bits(bit, 1)]
         words += [f"color 0x{bits(8, 24):06X}"] if not bits(7, 1) else []
         yield ", ".join(words)
 
@@ -127,15 +130,15 @@ def upc(value: Term) -> Iterator[str]:
 
 
 def wdg(value: Term) -> Iterator[str]:
-    """The blocks of data, methods and events that a device has for WMI: of each 16 bytes of GUID, two letters or the number of
-    the event, how many there are, and flags."""
+    """The blocks of data, methods and events that a device has for WMI: of each 16 bytes of GUID, two letters or the
+    number of the event, how many there are, and flags."""
     code = data(value)
     if len(code) % WDG_LENGTH or not code:
         raise NoForm
     for at in range(0, len(code), WDG_LENGTH):
         guid, (first, second, count, flags) = code[at : at + UUID_LENGTH], code[at + UUID_LENGTH : at + WDG_LENGTH]
         kind = next((word for bit, word in WDG_KINDS.items() if flags & bit), "data")
-        letters = "".join(chr(it) if 0x30 <= it <= 0x5A else f"\\x{it:02X}" for it in (first, second))
+        letters = escaped((first, second), range(0x30, 0x5B))
         name = {"event": f"0x{first:02X}", "method": f"WM{letters}"}.get(kind, f"WQ{letters}")
         more = f", {count} instances" if count != 1 else ""
         yield f"{uuid.UUID(bytes_le=guid)} {kind} {name}{more}" + (", expensive" if flags & 1 else "")

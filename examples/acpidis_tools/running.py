@@ -1,8 +1,4 @@
-"""Runs acpidis, and reads what it printed: for the scripts beside this file.
-
-A line of the text begins with spaces and a word of its own. What tables can write freely, names of files among it,
-stands in double quotes without a double quote inside, so no line but a raw body's begins with `Raw {`.
-"""
+"""Runs acpidis, and reads what it printed: for the scripts beside this file."""
 
 import os
 import pathlib
@@ -11,21 +7,19 @@ import shutil
 import subprocess
 from collections import namedtuple
 
-from acpidis_tools import paths, standard
-from acpidis_tools.listing import SEGMENT, NoListing, reader_of
+from acpidis_tools import aml, paths, standard
+from acpidis_tools.errors import FAULT, Fault
+from acpidis_tools.listing import NAME, NoListing, read_listing
 
 LAUNCHER = pathlib.Path(__file__).resolve().parents[2] / "acpidis"
 # Beside the script, where it is installed
 BIN = LAUNCHER.parents[1] / "bin"
-NAME = re.compile(rf"(\\|\^*)({SEGMENT}(?:\.{SEGMENT})*|)")
 # A name is looked for in each scope around it, which a hostile set could make many.
 MOST_SEGMENTS = 64
-MOST_SHOWN = 40
 METHOD = re.compile(r"Method \((\S+), ([0-7]), ")
-RAW = re.compile(r"Raw \{([0-9A-F, ]*)\}")
+RAW = re.compile(rb"^ *Raw \{", re.MULTILINE)
 BY_ANY_RUN = re.compile(r'table "[^"]*": (ModuleCode|ModuleCall|Duplicate|ScopeMissing)( .*)?')
-FAULT = re.compile(r"acpidis: body (\\\S*): (.*)")
-SCOPES = {"Scope", "Device", "Processor", "PowerResource", "ThermalZone", "Method"}
+SCOPES = {"Scope", "Method"} | aml.OPENERS
 # What has no effect as a term of its own, so that no compiler writes it there.
 CONSTANT = re.compile(r'(Local[0-7]|Arg[0-6]|Zero|One|Ones|Revision|Timer|Debug|0x[0-9A-F]+|".*")')
 VALUE = re.compile(
@@ -50,7 +44,7 @@ def refused(line, options):
 
 
 def command():
-    """The command that ACPIDIS names, else the launcher of this repository, else the program, on PATH or beside the script."""
+    """The command that ACPIDIS names, else this repository's launcher, else the program on PATH or beside a script."""
     named = os.environ.get("ACPIDIS")
     if not named and LAUNCHER.is_file():
         return str(LAUNCHER)
@@ -72,8 +66,8 @@ def program():
 
 
 class Node(paths.Node):
-    """A path: its kind, a method's as its count and an Alias's as the path that it stands for, whether it only may stand,
-    the greatest count of the methods that are declared there, and the count of a path that isn't declared."""
+    """A path: its kind, a method's as its count and an Alias's as the path that it stands for, whether it only may
+    stand, the greatest count of the methods that are declared there, and the count of a path that isn't declared."""
 
     __slots__ = ("kind", "is_maybe", "most", "count")
 
@@ -92,16 +86,9 @@ class Namespace(paths.Tree):
             self.node(path).kind = kind
 
     def start(self, scope, name):
-        """Above the root stands the root itself."""
-        form = NAME.fullmatch(name)
-        if not form:
-            raise ValueError(f"{name[:MOST_SHOWN]!r} is no name")
-        prefix, text = form.groups()
-        segments = text.split(".") if text else []
-        node = self.root if prefix == "\\" else scope
-        for _ in range(prefix.count("^")):
-            node = node.above or node
-        return node, segments, prefix == "" and len(segments) == 1
+        """Names are texts. Above the root stands the root itself."""
+        node, name = super().start(scope, paths.Name.of(name))
+        return node or self.root, name
 
     def add(self, row):
         """The node of a row of a listing."""
@@ -141,82 +128,72 @@ class Namespace(paths.Tree):
 
 
 class Method:
-    """A method of the text: the node of its path, its raw bytes or None, and the lines of its body."""
+    """A method of the text: its place among them, the node of its path, the lines of its body, and where that is raw
+    its bytes and their fault."""
 
-    def __init__(self, node):
-        self.node, self.raw, self.lines = node, None, []
-
-    def lone_values(self, namespace):
-        """How many of its terms are values that nothing takes."""
-        return sum(is_lone(line, self.node, namespace) for line in self.lines)
+    def __init__(self, number, node):
+        self.number, self.node, self.lines, self.raw, self.fault = number, node, [], None, None
 
 
-def is_lone(line, scope, namespace):
+def is_lone(line, namespace):
     """Whether a line is a value that nothing takes."""
-    if line and NAME.fullmatch(line):
-        kinds = namespace.may_be(scope, line)
+    text = line.bare
+    if NAME.fullmatch(text):
+        kinds = namespace.may_be(line.scope, text)
         return bool(kinds) and all(isinstance(kind, str) for kind in kinds)
-    return bool(CONSTANT.fullmatch(line) or VALUE.fullmatch(line))
+    return bool(CONSTANT.fullmatch(text) or VALUE.fullmatch(text))
+
+
+def check_depth(scope, line, fault):
+    if scope.depth > MOST_SEGMENTS:
+        raise fault(f"line {line.number}: a scope of more than {MOST_SEGMENTS} segments is too deep for this script")
 
 
 class Listing:
-    """A text: its namespace, and its methods in their order. `lines` are those of the definition blocks, as in walk."""
+    """A text: its namespace, its methods in their order, and its lines but for the ends of blocks, each with the node
+    of its scope, and the method in whose body it stands."""
 
     def __init__(self, text):
-        self.namespace, self.lines, self.methods = Namespace(), [], []
+        self.namespace, self.methods = Namespace(), []
         try:
-            reader = reader_of(text)
-            reader.dumps()
-            for row in reader.rows():
-                self.namespace.add(row)
+            found = read_listing(text)
         except NoListing as fault:
             raise Unusable(f"what it printed is no listing: {fault}") from fault
-        self.walk(reader.lines[reader.at :], reader.at + 1)
+        for row in found.rows:
+            self.namespace.add(row)
+        self.lines, opened = [line for line in found.lines if line.term], {}
+        for line in self.lines:
+            line.scope, line.method = opened.get(line.above, (self.namespace.root, None))
+            if line.method and line.term == "Raw":
+                line.method.raw = line.code
+            elif line.method:
+                line.method.lines.append(line)
+            if line.end:
+                opened[line] = self.opened(line)
 
-    def lone_values(self):
-        """How many terms outside the methods are values that nothing takes."""
-        return sum(is_lone(line, scope, self.namespace) for line, scope, method in self.lines if method is None)
+    def lone_values(self, lines=None):
+        """How many of the lines, or of those outside the methods, are values that nothing takes."""
+        lines = [line for line in self.lines if line.method is None] if lines is None else lines
+        return sum(is_lone(line, self.namespace) for line in lines)
 
-    def walk(self, lines, first):
-        """Gives each line its scope, and the method in whose body it stands. `first` is the first line's number."""
-        open_blocks = [(self.namespace.root, None)]
-        for number, line in enumerate(lines, first):
-            line = line.strip(" ")
-            scope, method = open_blocks[-1]
-            if line == "}" and len(open_blocks) > 1:
-                open_blocks.pop()
-                continue
-            try:
-                raw = RAW.fullmatch(line)
-                if method and raw:
-                    method.raw = bytes.fromhex(raw[1].replace(",", ""))
-                elif method:
-                    method.lines.append(line)
-                self.lines.append((line, scope, method))
-                if line.endswith(" {"):
-                    open_blocks.append(self.opened(line, scope, method))
-            except ValueError as fault:
-                raise Unusable(f"line {number} isn't one of a listing of acpidis") from fault
-            if open_blocks[-1][0].depth > MOST_SEGMENTS:
-                raise Unusable(f"line {number}: a scope of more than {MOST_SEGMENTS} segments is too deep for this script")
-
-    def opened(self, line, scope, method):
-        word, _, rest = line.partition(" (")
-        if word not in SCOPES or method:
-            return scope, method
-        name = re.split(r"[,)]", rest, maxsplit=1)[0]
-        node = self.namespace.found(scope, name) if word == "Scope" else self.namespace.place(scope, name)
-        if word != "Method":
+    def opened(self, line):
+        if line.term not in SCOPES or line.method:
+            return line.scope, line.method
+        name = line.pieces[3] if line.pieces[2] == " (" else ""
+        look = self.namespace.found if line.term == "Scope" else self.namespace.place
+        node = look(line.scope, name)
+        check_depth(node, line, Unusable)
+        if line.term != "Method":
             return node, None
-        form = METHOD.match(line)
+        form = METHOD.match(line.bare)
         if form:
             node.most = max(int(form[2]), node.most or 0)
-        self.methods.append(Method(node))
+        self.methods.append(Method(len(self.methods), node))
         return node, self.methods[-1]
 
 
-# What a run printed: the reason why the set is refused, or the listing and the fault of each raw body
-Run = namedtuple("Run", "refused listing faults")
+# What a run printed: the reason why the set is refused, or the listing and its methods whose bodies are raw
+Run = namedtuple("Run", "refused listing raw")
 
 
 def started(words, errors):
@@ -242,8 +219,12 @@ def run(words):
     out, err, refusal = ended(words)
     if refusal is not None:
         return Run(refusal.removeprefix("acpidis: "), None, [])
-    faults = [FAULT.fullmatch(line) for line in err]
-    listing = Listing(out)
-    if None in faults or len(faults) != sum(method.raw is not None for method in listing.methods):
+    forms = [FAULT.fullmatch(line) for line in err]
+    # What tables can write freely stands in quotes, so that no line but a raw body's begins so.
+    if None in forms or len(forms) != len(RAW.findall(out)):
         raise Unusable("the lines of standard error don't fit the raw bodies of the text")
-    return Run(None, listing, [fault.groups() for fault in faults])
+    listing = Listing(out)
+    raw = [method for method in listing.methods if method.raw is not None]
+    for method, form in zip(raw, forms):
+        method.fault = Fault.of(form)
+    return Run(None, listing, raw)

@@ -37,6 +37,15 @@ EISA_NUMBER = re.compile(r"0x[0-9A-F]{4}(?:[0-9A-F]{4})?")
 UUID_LENGTH = 16
 
 
+def escaped(data: bytes, plain=range(0x20, 0x7F)) -> str:
+    """Bytes as a text, those that aren't plain as \\x and two digits."""
+    return "".join(chr(byte) if byte in plain else f"\\x{byte:02X}" for byte in data)
+
+
+def counted(count: int, word: str) -> str:
+    return f"{count:,} {word}{'' if count == 1 else 's'}"
+
+
 def space_name(number: int) -> str:
     return SPACES.get(number) or (f"0x{number:02X}" if number < FIRST_OF_VENDORS else f"vendor's 0x{number:02X}")
 
@@ -46,11 +55,12 @@ def named(words: tuple, number: int) -> str:
 
 
 def status_words(number: int, is_power: bool = False) -> str:
-    """What _STA says with a number: of a device, where the last bit counts of a battery alone, or of a power resource."""
+    """What _STA says with a number: of a device, whose last bit counts of a battery alone, or of a power resource."""
     if is_power:
         return named(WORDS["POWER"], number)
     *bits, battery = WORDS["STATUS_BITS"]
-    words = [word if number >> bit & 1 else f"not {word}" for bit, word in enumerate(bits if number & 0b1001 else bits[:1])]
+    bits_told = bits if number & 0b1001 else bits[:1]
+    words = [word if number >> bit & 1 else f"not {word}" for bit, word in enumerate(bits_told)]
     return ", ".join(words + [battery] * (number >> len(bits) & 1))
 
 
@@ -74,13 +84,12 @@ def eisa_number(identifier: str) -> int | None:
 
 def with_name(identifier: str) -> str:
     """An identifier of a device, with its name."""
-    name = DEVICE_NAMES.get(identifier, "")
-    return f"{identifier} {name}".rstrip()
+    return f"{identifier} {DEVICE_NAMES.get(identifier, '')}".rstrip()
 
 
 def uuid_text(data: bytes) -> str:
-    """The UUID that `ToUUID` makes these bytes of, and nothing where they hardly are one: its version is 1 to 5, and its
-    variant that of the standard (RFC 4122)."""
+    """The UUID that `ToUUID` makes these bytes of, and nothing where they hardly are one: its version is 1 to 5, and
+    its variant that of the standard (RFC 4122)."""
     if len(data) != UUID_LENGTH:
         return ""
     text = str(uuid.UUID(bytes_le=data))
@@ -89,5 +98,4 @@ def uuid_text(data: bytes) -> str:
 
 
 def uuid_with_name(text: str) -> str:
-    name = UUID_NAMES.get(text, "")
-    return f"UUID {text} {name}".rstrip()
+    return f"UUID {text} {UUID_NAMES.get(text, '')}".rstrip()

@@ -1,4 +1,4 @@
-"""Reads the words of a line as a term with its arguments (docs/listing.md), and says what becomes of each name in it."""
+"""Reads the words of a line as a term with its arguments (docs/listing.md), and says what becomes of its names."""
 
 from __future__ import annotations
 
@@ -17,8 +17,8 @@ OBJECT_OPERATORS = {
 
 
 class Term:
-    """A word with its arguments in parentheses, None for an empty one, and what stands behind them in braces: the bytes of
-    a buffer or the elements of a package. `place` is the word's place in its line."""
+    """A word with its arguments in parentheses, None for an empty one, and what stands behind them in braces: the bytes
+    of a buffer or the elements of a package. `place` is the word's place in its line."""
 
     __slots__ = ("word", "place", "arguments", "braced")
 

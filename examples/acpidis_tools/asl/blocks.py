@@ -5,10 +5,11 @@ from collections import namedtuple
 
 from acpidis_tools import command, listing, running
 from acpidis_tools.asl import fields, language, terms
-from acpidis_tools.asl.names import Externals, Names, Scope, Use
+from acpidis_tools.asl.names import Names, Scope, Use, externals
 
-TABLE = re.compile(r'Table ("[^"]*") ("[^"]*") Length \d+ Revision (\d{1,3}) Oem ("[^"]*") ("[^"]*") ([0-9A-F]{8}) Creator .*')
-RAW = "Raw {"
+TABLE = re.compile(
+    r'Table ("[^"]*") ("[^"]*") Length \d+ Revision (\d{1,3}) Oem ("[^"]*") ("[^"]*") ([0-9A-F]{8}) Creator .*'
+)
 GUARD = "If (Zero) {"
 OTHERS = "  // What else the tables declare:"
 
@@ -23,125 +24,100 @@ class Table(namedtuple("Table", "number file signature revision oem oem_table oe
 
 
 class Block:
-    """A definition block. `told` is what ASL can't spell, with the numbers of the lines. `said` are the names on its
-    lines, in their order, with their counts of arguments, and `bodies` tell of each method whether it has terms. A text
-    that is to be changed has the Externals that it needs."""
+    """A definition block: a line for each of the listing's, from the line `first` on. `said` are the names on its
+    lines, with their counts of arguments, `methods` the heads and nodes of its methods, and `bodies` tell whether these
+    have terms. A text that is to be changed has the Externals that it needs, and is without the `guards`, the first and
+    the last line of each If that has Externals alone: iasl writes one of its own around those."""
 
     def __init__(self, table, space, is_edited=False):
         self.table, self.names, self.is_edited, self.lines = table, Names(space), is_edited, []
-        self.told, self.said, self.bodies = [], [], []
-        self.open, self.number, self.guard = [""], table.number, None
+        self.unspelled, self.said, self.bodies, self.methods, self.guards = [], [], [], [], set()
+        self.number = table.number
         self.head = table.head(table.signature, self.tell)
 
     def tell(self, what):
-        self.told.append((self.number, what))
+        self.unspelled.append((self.number, what))
 
-    def add(self, number, line):
-        """Takes the next line, and says whether it ends the block."""
-        self.number, text = number, line.lstrip(" ")
-        indent = line[: len(line) - len(text)]
-        if text == "}":
-            return self.close(indent)
-        if self.open[-1] in language.FLAGS:
-            turned, unit, used = fields.element(text, self.tell)
-            self.met("Unit", self.names.unit(unit, used, number), text)
+    @property
+    def told(self):
+        """What ASL can't spell, or iasl makes otherwise, with the numbers of the lines."""
+        return sorted([*self.unspelled, *self.names.told()], key=lambda it: it[0])
+
+    def read(self, lines):
+        self.first = lines[1].number
+        for place, line in enumerate(lines[1:-1], 1):
+            self.number = line.number
+            try:
+                self.lines.append("  " * line.depth + self.turned(line))
+            except ValueError as fault:
+                raise misread(line.number) from fault
+            if line.depth == 1 and line.bare == GUARD:
+                inside = lines[place + 1 : place + line.end - line.number]
+                self.guards |= {line.number, line.end} if all(it.term == "External" for it in inside) else set()
+
+    def turned(self, line):
+        """A line as one of ASL."""
+        if not line.term:
+            return "}"
+        if line.above.term in language.FLAGS:
+            turned, unit, used = fields.element(line.bare, self.tell)
+            self.names.unit(line, unit, used)
             self.said += [(name, 0) for name in (unit, used) if name]
-            self.lines.append(indent + turned)
-        elif self.open[-1] == "Method" and text.startswith(RAW):
+            return turned
+        if line.above.term == "Method" and line.bare.startswith("Raw"):
             self.tell("a body without terms")
             self.bodies[-1] = False
             # No ASL, which iasl refuses: else it would make an empty method of it
-            self.lines.append(f"{indent}Raw {{}} // {text.removeprefix('Raw ')}")
-        else:
-            self.term(indent, text)
-        return False
+            return f"Raw {{}} //{line.pieces[2]}"
+        turner = terms.Turner(int(self.table.revision), self.tell)
+        turned = turner.line(line.bare)
+        self.said += [(named.name, named.count) for named in turner.names if named.name]
+        node = self.names.line(line, turner.names)
+        if line.term == "Method":
+            self.bodies.append(True)
+            self.methods.append((line, node))
+        return turned
 
-    def term(self, indent, text):
-        turned, names = terms.term(text, int(self.table.revision), self.tell)
-        self.said += [(named.name, named.count) for named in names if named.name]
-        word, opens = text.split(" ", 1)[0], text.endswith("{")
-        self.met(word, self.names.line(word, names, opens, self.number), text)
-        self.lines.append(indent + turned)
-        if opens:
-            self.open.append(word)
-            if word == "Method":
-                self.bodies.append(True)
-
-    def close(self, indent):
-        self.open.pop()
-        if self.open:
-            self.names.open.pop()
-            self.lines.append(indent + "}")
-            self.closed()
-        else:
-            self.told = sorted([*self.told, *self.names.told()], key=lambda it: it[0])
-        return not self.open
-
-    def met(self, word, node, text):
-        """Remembers where an If begins that has Externals alone: iasl writes one of its own around those."""
-        if text == GUARD and len(self.open) == 1:
-            self.guard = len(self.lines)
-        elif word != "External" or len(self.open) != 2:
-            self.guard = None
-
-    def closed(self):
-        """A block inside is closed."""
-        if self.guard is not None and len(self.open) == 1:
-            if self.is_edited:
-                self.lines[self.guard :] = [line[2:] for line in self.lines[self.guard + 1 : -1]]
-            self.guard = None
+    def methods_at(self, path):
+        """The methods with this path. What stands inside one that is found is part of it."""
+        found = []
+        for (line, node), has_terms in zip(self.methods, self.bodies):
+            if node.path() == path and not (found and line.number < found[-1].line.end):
+                told = [it for it in self.unspelled if line.number < it[0] < line.end]
+                found.append(Found(self, self.table, line, node, told, has_terms))
+        return found
 
     def text(self, rows, said):
         """The lines of the block in ASL. With Externals those of these rows stand at its end."""
         if not self.is_edited:
             return [self.head, *self.lines, "}"]
-        names = self.names
-        externals = Externals(names, names.uses, names.own | names.externals.keys(), said)
-        return around(self.head, externals, self.lines, rows)
+        names, lines, is_guarded = self.names, [], False
+        for number, line in enumerate(self.lines, self.first):
+            if number in self.guards:
+                is_guarded = not is_guarded
+            else:
+                lines.append(line[2 * is_guarded :])
+        return around(self.head, lines, names.space, names.uses, names.own | names.externals.keys(), said, rows)
 
 
-def around(head, externals, lines, rows):
+def around(head, lines, *about):
     """A definition block of these lines with its Externals."""
-    wanted, others = ([f"  {line}" for line in some] for some in (externals.wanted(), externals.others(rows)))
+    wanted, others = ([f"  {line}" for line in some] for some in externals(*about))
     return [head, *wanted, *lines, *([OTHERS, *others] if others else []), "}"]
 
 
-class MethodBlock(Block):
-    """A definition block, of which one method is wanted: the lines of those with its path, and what they use."""
-
-    def __init__(self, table, space, path):
-        super().__init__(table, space)
-        self.path, self.found, self.begun = path, [], None
-
-    def met(self, word, node, text):
-        if word == "Method" and node.path() == self.path and not self.begun:
-            self.begun = Found(self, node)
-
-    def closed(self):
-        found = self.begun
-        if found and len(self.open) == found.depth:
-            found.lines, found.told = self.lines[found.at :], self.told[found.told_at :]
-            found.uses, found.has_terms = self.names.uses[found.uses_at :], self.bodies[-1]
-            del self.lines[found.at :]
-            self.found.append(found)
-            self.begun = None
-
-
-class Found:
+class Found(namedtuple("Found", "block table line node told has_terms")):
     """A method of a listing, as a definition block with nothing else."""
 
-    def __init__(self, block, node):
-        self.block, self.table, self.node, self.number, self.depth = block, block.table, node, block.number, len(block.open)
-        self.at, self.told_at, self.uses_at = len(block.lines), len(block.told), len(block.names.uses)
-
     def text(self, rows, said):
-        names, indent = self.block.names, len(self.lines[0]) - len(self.lines[0].lstrip()) - 2
+        names, first, end = self.block.names, self.line.number, self.line.end
         # By its whole path the method needs no Scope around it.
-        head = re.sub(r"Method \([^,]*", lambda _: f"Method ({self.node.path()}", self.lines[0])
-        lines = [line[indent:] for line in (head, *self.lines[1:])]
-        above = Use(Scope(names.space.root, None), terms.Named(self.node.above.path()), self.number)
-        externals = Externals(names, [*self.uses, above], {self.node}, said)
-        return around(self.table.head('"SSDT"', self.block.tell), externals, lines, rows)
+        lines = self.block.lines[first - self.block.first : end + 1 - self.block.first]
+        head = re.sub(r"Method \([^,]*", lambda _: f"Method ({self.node.path()}", lines[0])
+        lines = [line[2 * self.line.depth - 2 :] for line in (head, *lines[1:])]
+        above = Use(Scope(names.space.root, None), terms.Named(self.node.above.path()), first)
+        uses = [*(use for use in names.uses if first <= use.number < end), above]
+        return around(self.table.head('"SSDT"', self.block.tell), lines, names.space, uses, {self.node}, said, rows)
 
 
 class Reader:
@@ -163,11 +139,7 @@ class Reader:
             if block.file not in tables:
                 raise misread(number)
             self.blocks.append(self.make(tables.pop(block.file), self.space))
-            for line in block.lines[1:]:
-                try:
-                    self.blocks[-1].add(line.number, line.text)
-                except ValueError as fault:
-                    raise misread(line.number) from fault
+            self.blocks[-1].read(block.lines)
         listing.check_blocks(dumps, self.blocks, len(lines.lines))
 
 

@@ -12,8 +12,8 @@ def shortest(size):
 
 
 class Reader(aml.Reader):
-    """Reads a table by its text: `said` are the names of that, each with how many arguments it has, and `bodies` tell of
-    each method whether it has terms."""
+    """Reads a table by its text: `said` are the names of that, each with how many arguments it has, and `bodies` tell
+    of each method whether it has terms."""
 
     def __init__(self, code, said, bodies):
         super().__init__("", code, aml.Space(0))

@@ -15,34 +15,34 @@ Use = namedtuple("Use", "scope named number")
 
 class Names:
     """What a definition block declares and uses. `own` are the nodes that it declares outside the methods, `externals`
-    those of its Externals, each with the names and the numbers of their lines, and `scopes` those that a Scope opens."""
+    those of its Externals, each with the names and the numbers of their lines, `scopes` those that a Scope opens."""
 
     def __init__(self, space):
         self.space, self.own, self.externals, self.uses, self.scopes = space, set(), {}, [], set()
-        self.open = [Scope(space.root, None)]
+        self.inside = {}  # the scopes of what stands in the blocks of lines
 
-    def unit(self, name, used, number):
-        """An element of a field list: a unit that it declares, or a name that it uses. Answers the node of the former."""
+    def scope(self, line):
+        return self.inside.get(line.above) or Scope(self.space.root, None)
+
+    def unit(self, line, name, used):
+        """An element of a field list: a unit that it declares, or a name that it uses."""
         if used:
-            self.uses.append(Use(self.open[-1], terms.Named(used), number))
-        return self.declare(name) if name else None
+            self.uses.append(Use(self.scope(line), terms.Named(used), line.number))
+        if name:
+            self.declare(self.scope(line), name)
 
-    def line(self, word, names, opens, number):
+    def line(self, line, names):
         """A term with these names. Answers the node that it declares."""
-        scope, node, names = self.open[-1], None, list(names)
-        if names and word == "External":
+        scope, node, names = self.scope(line), None, list(names)
+        if names and line.term == "External":
             named = names.pop()
-            self.externals.setdefault(self.space.place(scope.node, named.name), []).append((named, number))
-        elif names and word in aml.NAMED_LAST:
-            node = self.declare(names.pop().name)
-        elif names and word in aml.DECLARERS:
-            node = self.declare(names.pop(0).name)
-        self.uses += [Use(scope, named, number) for named in names]
-        if opens:
-            self.open.append(self.opened(scope, word, node, names))
-            most = running.MOST_SEGMENTS
-            if self.open[-1].node.depth > most:
-                raise NoListing(f"line {number}: a scope of more than {most} segments is too deep for this script")
+            self.externals.setdefault(self.space.place(scope.node, named.name), []).append((named, line.number))
+        elif names and line.term in aml.DECLARERS:
+            node = self.declare(scope, names.pop(-1 if line.term in aml.NAMED_LAST else 0).name)
+        self.uses += [Use(scope, named, line.number) for named in names]
+        if line.end:
+            opened = self.inside[line] = self.opened(scope, line.term, node, names)
+            running.check_depth(opened.node, line, NoListing)
         return node
 
     def opened(self, scope, word, node, names):
@@ -54,8 +54,7 @@ class Names:
             return Scope(node, scope.local)
         return Scope(node if word in aml.OPENERS else scope.node, scope.local)
 
-    def declare(self, name):
-        scope = self.open[-1]
+    def declare(self, scope, name):
         node = self.space.place(scope.node, name)
         (self.own if scope.local is None else scope.local).add(node)
         return node
@@ -102,51 +101,44 @@ class Names:
         return isinstance(running.PREDEFINED.get(node.path()), int)
 
 
-class Externals:
-    """The Externals of a text: `wanted` of what it uses and doesn't declare, which have to stand in front; `others` of all
-    else that the rows of the listing have, so that iasl finds what is typed, and not what isn't there. `own` are the nodes
-    that the text declares itself, `said` what the Externals of the tables say of nodes."""
+def externals(space, uses, own, said, rows):
+    """The Externals of what a text uses and doesn't declare, which have to stand in front; and of all else that the
+    rows of the listing have, so that iasl finds what is typed, and not what isn't there. `own` are the nodes that the
+    text declares itself, `said` what the Externals of the tables say of nodes."""
+    is_other = lambda node: node.above and node not in own and node.path() not in running.PREDEFINED
+    counts = {}
+    for use in uses:
+        node = meant(space, use, said)
+        if node and is_other(node):
+            counts[node] = max(use.named.count, counts.get(node, 0))
+    wanted = [external(space, node, said, counts[node]) for node in sorted(counts, key=running.Node.path)]
+    return wanted, [external(space, node, said, 0) for node in rows if node not in counts and is_other(node)]
 
-    def __init__(self, names, uses, own, said):
-        self.space, self.own, self.said = names.space, own, said
-        self.counts = {}
-        for use in uses:
-            node = self.meant(use.scope, use.named.name)
-            if node and self.is_other(node):
-                self.counts[node] = max(use.named.count, self.counts.get(node, 0))
 
-    def is_other(self, node):
-        return node.above and node not in self.own and node.path() not in running.PREDEFINED
+def meant(space, use, said):
+    """The node that a name means: the nearest that is declared, else that of an External, else the root's; None where
+    that is the body's own."""
+    scope, outside = use.scope, None
+    for node in space.candidates(scope.node, use.named.name):
+        if scope.local and node in scope.local:
+            return None
+        if node.kind is not None:
+            return node
+        if outside is None and node in said:
+            outside = node
+    return outside or space.given_place(scope.node, use.named.name)
 
-    def wanted(self):
-        return [self.external(node, self.counts[node]) for node in sorted(self.counts, key=running.Node.path)]
 
-    def others(self, rows):
-        return [self.external(node, 0) for node in rows if node not in self.counts and self.is_other(node)]
-
-    def meant(self, scope, name):
-        """The node that a name means: the nearest that is declared, else that of an External, else the root's; None where
-        that is the body's own."""
-        outside = None
-        for node in self.space.candidates(scope.node, name):
-            if scope.local and node in scope.local:
-                return None
-            if node.kind is not None:
-                return node
-            if outside is None and node in self.said:
-                outside = node
-        return outside or self.space.given_place(scope.node, name)
-
-    def external(self, node, count):
-        """The External of a node, which is used with so many arguments."""
-        kinds = self.space.kinds_of(node) if node.kind is not None else []
-        said = self.said.get(node)
-        if not kinds and said:
-            return terms.declared(node.path(), said.word, max(said.count, count if said.is_call else 0))
-        kind = kinds[0] if kinds else count or ""
-        if isinstance(kind, int):
-            return terms.declared(node.path(), "MethodObj", max(kind, count))
-        return terms.declared(node.path(), language.OBJECT_OF.get(kind, "UnknownObj"))
+def external(space, node, said, count):
+    """The External of a node, which is used with so many arguments."""
+    kinds = space.kinds_of(node) if node.kind is not None else []
+    if not kinds and node in said:
+        word, most = said[node].word, said[node].count
+        return terms.declared(node.path(), word, max(most, count if said[node].is_call else 0))
+    kind = kinds[0] if kinds else count or ""
+    if isinstance(kind, int):
+        return terms.declared(node.path(), "MethodObj", max(kind, count))
+    return terms.declared(node.path(), language.OBJECT_OF.get(kind, "UnknownObj"))
 
 
 def said_by(blocks):

@@ -6,14 +6,15 @@ from collections import namedtuple
 
 from acpidis_tools import aml, standard
 from acpidis_tools.asl import language
-from acpidis_tools.listing import SEGMENT, WORD
+from acpidis_tools.listing import NAME, WORD
 from acpidis_tools.terms import terms_in
 
-NAME = re.compile(rf"\\|\^+|(?:\\|\^*){SEGMENT}(?:\.{SEGMENT})*")
 NUMBER = re.compile(r"0x(?:[0-9A-F]{2}){1,8}")
 ESCAPE = re.compile(r"\\x([0-9A-F]{2})")
 # What ASL has as a part of other terms alone.
-ALONE = re.compile(r'0x[0-9A-F]+|".*"|(Zero|One|Ones|Revision|Debug|Local[0-7]|Arg[0-6])|(Buffer|Package|VarPackage) \(.*')
+ALONE = re.compile(
+    r'0x[0-9A-F]+|".*"|Zero|One|Ones|Revision|Debug|Local[0-7]|Arg[0-6]|(?:Buffer|Package|VarPackage) \(.*'
+)
 STORAGE = re.compile(r"Local[0-7]|Arg[0-6]")
 METHOD = re.compile(rf"Method \(({NAME.pattern}|), ([0-7]), (NotSerialized|Serialized), ([0-9]|1[0-5])\) \{{")
 EXTERNAL = re.compile(rf"External \(({NAME.pattern}|), 0x([0-9A-F]{{2}}), 0x0([0-7])\)")
@@ -27,7 +28,8 @@ def quoted(inner, tell):
     for code in ESCAPE.findall(inner):
         if code == "00" or code > "7F":
             tell("a text with bytes that aren't ASCII")
-    return '"' + ESCAPE.sub(lambda found: "\\" + chr(int(found[1], 16)) if found[1] in ("22", "5C") else found[0], inner) + '"'
+    shown = lambda found: "\\" + chr(int(found[1], 16)) if found[1] in ("22", "5C") else found[0]
+    return f'"{ESCAPE.sub(shown, inner)}"'
 
 
 def picked(words, value, what, tell):
@@ -45,41 +47,6 @@ def plain(name, tell):
     if name in language.TAKEN:
         tell(f"the name {name}, which is a word of ASL")
     return name
-
-
-def term(text, revision, tell):
-    """A line of terms as one of ASL, and the names on it. A line that is none of a listing is a ValueError."""
-    if text.startswith("Method ("):
-        return method(text, tell)
-    if text.startswith("External ("):
-        return external(text, tell)
-    if ALONE.fullmatch(text):
-        tell("a value that nothing takes")
-    turner = Turner(revision, tell)
-    turned = turner.line(text)
-    if NAME.fullmatch(text):
-        return turned + " ()", [Named(text, is_value=True, is_call=True)]
-    return turned, turner.names
-
-
-def method(text, tell):
-    form = METHOD.fullmatch(text)
-    if not form:
-        raise ValueError("none of a listing")
-    name, count, rule, level = form.groups()
-    level = f", {level}" if level != "0" else ""
-    return f"Method ({plain(name, tell)}, {count}, {rule}{level}) {{", [Named(name, int(count))]
-
-
-def external(text, tell):
-    form = EXTERNAL.fullmatch(text)
-    if not form:
-        raise ValueError("none of a listing")
-    name, kind, count = form[1], int(form[2], 16), int(form[3])
-    word = picked(language.OBJECTS, kind, "an External of the type", tell)
-    if count and word != "MethodObj":
-        tell(f"an External of the type {word} with arguments")
-    return declared(plain(name, tell), word, count), [Named(name, count, is_call=word == "MethodObj", word=word)]
 
 
 def declared(name, word, count=0):
@@ -110,20 +77,42 @@ def spelled(term):
 
 
 class Turner:
-    """Turns a line, term by term."""
+    """Turns a line, term by term, and keeps its names. A line that is none of a listing is a ValueError."""
 
     def __init__(self, revision, tell):
         self.revision, self.tell, self.names = revision, tell, []
 
     def line(self, text):
-        """A line of one term, which may open a block."""
+        """A line of one term, which may open a block, as one of ASL."""
+        if text.startswith(("Method (", "External (")):
+            form = METHOD.fullmatch(text) or EXTERNAL.fullmatch(text)
+            if not form:
+                raise ValueError("none of a listing")
+            return self.method(*form.groups()) if form.re is METHOD else self.external(*form.groups())
+        if ALONE.fullmatch(text):
+            self.tell("a value that nothing takes")
         opens = " {" if text.endswith(" {") else ""
         steps = ({"(": 1, "{": 1, ")": -1, "}": -1}.get(found[0], 0) for found in BRACKET.finditer(text))
         is_deep = max(itertools.accumulate(steps), default=0) > DEEPEST
         found = [] if is_deep else terms_in(WORD.split(text.removesuffix(opens)))
         if len(found) != 1 or spelled(found[0]) + opens != text:
             raise ValueError("none of a listing")
-        return self.term(found[0], OUTSIDE) + opens
+        turned = self.term(found[0], OUTSIDE) + opens
+        if NAME.fullmatch(text):
+            turned, self.names = turned + " ()", [Named(text, is_value=True, is_call=True)]
+        return turned
+
+    def method(self, name, count, rule, level):
+        self.names = [Named(name, int(count))]
+        level = f", {level}" if level != "0" else ""
+        return f"Method ({plain(name, self.tell)}, {count}, {rule}{level}) {{"
+
+    def external(self, name, kind, digit):
+        word, count = picked(language.OBJECTS, int(kind, 16), "an External of the type", self.tell), int(digit)
+        if count and word != "MethodObj":
+            self.tell(f"an External of the type {word} with arguments")
+        self.names = [Named(name, count, is_call=word == "MethodObj", word=word)]
+        return declared(plain(name, self.tell), word, count)
 
     def term(self, term, part):
         text, kinds = self.word(term, part), aml.PARTS.get(term.word, "")
@@ -166,32 +155,27 @@ class Turner:
         token = term.word
         if (part.word, part.mark) == ("VarPackage", "(") and term.number in range(256):
             self.tell("a VarPackage of a constant size")
-        if token[0] == '"':
-            self.check(token, part)
-            return quoted(token[1:-1], self.tell)
-        if token[0] == "0" and NUMBER.fullmatch(token):
-            self.check(token, part)
-            return self.number(token, part)
-        if token in aml.PARTS:
-            self.check(token, part)
-            return language.RENAMED.get(token, token)
-        if not NAME.fullmatch(token):
-            raise ValueError("none of a listing")
-        if (part.word, part.place) == ("Name", 1):
-            self.tell("a name as the value of a Name")
-        is_call = bool(term.arguments)
-        is_value = is_call or (part.mark, part.kind) == ("(", "T")
-        self.names.append(Named(token, len(term.arguments), is_value, is_call))
-        return plain(token, self.tell)
-
-    def check(self, token, part):
-        """Whether ASL takes this, which is no name, as a part of the word in front of the bracket."""
+        if NAME.fullmatch(token):
+            if (part.word, part.place) == ("Name", 1):
+                self.tell("a name as the value of a Name")
+            is_call = bool(term.arguments)
+            is_value = is_call or (part.mark, part.kind) == ("(", "T")
+            self.names.append(Named(token, len(term.arguments), is_value, is_call))
+            return plain(token, self.tell)
+        # Whether ASL takes it as a part of the word in front of the bracket
         if part.mark and (token == "Load" or token == "Debug" and part.kind in "TD"):
             self.tell(f"{token} as a value")
         elif token in language.PICKY.get((part.word, part.place), ()):
             self.tell(f"{part.word} of {token}")
         elif part.word == "DerefOf" and not (token in language.REFERENCES or STORAGE.fullmatch(token)):
             self.tell("DerefOf of what is no reference")
+        if token[0] == '"':
+            return quoted(token[1:-1], self.tell)
+        if NUMBER.fullmatch(token):
+            return self.number(token, part)
+        if token not in aml.PARTS:
+            raise ValueError("none of a listing")
+        return language.RENAMED.get(token, token)
 
     def number(self, token, part):
         value, width = int(token, 16), len(token) // 2 - 1
@@ -212,16 +196,12 @@ class Turner:
             return standard.SPACES.get(value, token)
         if word == "Match":
             return picked(language.MATCHES, value, "Match by the operator", self.tell)
-        if language.FLAGS.get(word) == place:
-            return self.flags(value)
+        if language.FLAGS.get(word) == place:  # of a field list (20.2.5.2)
+            if value & 0x80:
+                self.tell("bit 7 of a field list's flags")
+            access = picked(standard.ACCESS_TYPES, value & 15, "the access type", self.tell)
+            update = picked(standard.UPDATE_RULES, value >> 5 & 3, "the update rule", self.tell)
+            return f"{access}, {standard.LOCK_RULES[value >> 4 & 1]}, {update}"
         if word == "Mutex" and value > language.MOST_SYNC_LEVEL:
             self.tell(f"a Mutex of the level {value}")
         return token
-
-    def flags(self, value):
-        """The flags of a field list (20.2.5.2)."""
-        if value & 0x80:
-            self.tell("bit 7 of a field list's flags")
-        access = picked(standard.ACCESS_TYPES, value & 15, "the access type", self.tell)
-        update = picked(standard.UPDATE_RULES, value >> 5 & 3, "the update rule", self.tell)
-        return f"{access}, {standard.LOCK_RULES[value >> 4 & 1]}, {update}"

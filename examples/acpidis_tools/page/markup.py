@@ -15,9 +15,10 @@ from acpidis_tools.comparison import differences
 from acpidis_tools.errors import raw_lines
 from acpidis_tools.listing import HEADER, TEXT, Dump, Listing, path_text
 from acpidis_tools.names import PREDEFINED
-from acpidis_tools.page.lines import blocks_html, uses_html
-from acpidis_tools.page.sheet import Sheet, classed, counted, link, packed
+from acpidis_tools.page.lines import BlockWriter
+from acpidis_tools.page.sheet import Sheet, classed, link, packed
 from acpidis_tools.page.tree import TreeWriter
+from acpidis_tools.standard import counted
 
 HERE = pathlib.Path(__file__).resolve().parent
 # Longer lists of a comparison are folded.
@@ -47,10 +48,10 @@ def undeclared_html(sheet: Sheet) -> list[str]:
     open_paths = [path for path in PREDEFINED if path not in names.lines]
     predefined = [
         f"<div><dfn id={path_text(path)}>{path_text(path)}</dfn> {PREDEFINED[path]}"
-        f"{uses_html(names.uses[path_text(path)], sheet)}</div>\n" for path in open_paths
+        f"{sheet.uses_html(names.uses[path_text(path)])}</div>\n" for path in open_paths
     ]
     strays = [
-        f"<div><u>{word}</u>{uses_html(uses, sheet)}</div>\n" for word, uses in sorted(names.strays.items())
+        f"<div><u>{word}</u>{sheet.uses_html(uses)}</div>\n" for word, uses in sorted(names.strays.items())
         if sheet.shown is None or any(sheet.shows(number) for numbers in uses.values() for number in numbers)
     ]
     end = "</section>\n"
@@ -108,7 +109,8 @@ def table_changes_html(sheet: Sheet) -> list[str]:
     for file, lines in tables.items():
         name = escape(file[1:-1])
         head = f"<a href=#{numbers[file]}>{name}</a>" if file in numbers else f"{name}, here not"
-        shown = f"<pre>{escape(chr(10).join(lines))}</pre>" if lines else " isn't there" if lines is None else " lacks lines"
+        shown = " isn't there" if lines is None else " lacks lines"
+        shown = f"<pre>{escape(chr(10).join(lines))}</pre>" if lines else shown
         items.append(f"<li class=changed>{head}{shown}</li>\n")
     return [*folded_list(f"{counted(len(items), 'table')} that it has otherwise", items, True), "\n"]
 
@@ -135,8 +137,8 @@ def comparison_html(sheet: Sheet) -> list[str]:
         changes.append(f"<li class=changed>{head}<pre>{shown}</pre></details></li>\n")
     written = [f"<section id=comparison><h2>Beside {escape(found.other)}</h2>\n", *table_changes_html(sheet)]
     ours, theirs = escape(sheet.name), escape(found.other)
-    kinds = ((adds, f"{theirs} alone has"), (lacks, f"{ours} alone has"), (changes, f"{theirs} has otherwise than {ours}"))
-    for items, word in kinds:
+    kinds = {f"{theirs} alone has": adds, f"{ours} alone has": lacks, f"{theirs} has otherwise than {ours}": changes}
+    for word, items in kinds.items():
         written += [*folded_list(f"{counted(len(items), 'path')} that {word}", items, len(items) <= MOST_OPEN), "\n"]
     return [*written, "</section>\n"]
 
@@ -171,7 +173,8 @@ def navigation_html(sheet: Sheet, tree: TreeWriter) -> list[str]:
     oem = title_of(listing)
     shown_oem = f"<p class=oem>{escape(oem)}</p>" if oem and sheet.name else ""
     return [
-        f"<nav aria-label=Namespace>\n<header>\n<h1>{escape(sheet.name or oem or 'ACPI tables')}</h1>\n{shown_oem}{part}\n",
+        f"<nav aria-label=Namespace>\n<header>\n<h1>{escape(sheet.name or oem or 'ACPI tables')}</h1>\n",
+        f"{shown_oem}{part}\n",
         '<input id=find type=search aria-label="Find a path, an identifier or a kind"'
         " autocomplete=off spellcheck=false hidden>\n",
         f"</header>\n<p class=kinds>{kinds}</p>\n<div id=found hidden></div>\n<div id=tree>\n",
@@ -185,8 +188,9 @@ def page(sheet: Sheet) -> str:
     tree = TreeWriter(sheet)
     parts = [head_html(sheet, style, script), *navigation_html(sheet, tree)]
     parts.append("<main id=main tabindex=-1>\n<p id=where hidden></p>\n")
-    for part in (comparison_html, raw_list_html, tables_html, blocks_html, undeclared_html):
+    for part in (comparison_html, raw_list_html, tables_html):
         parts += part(sheet)
+    parts += [*BlockWriter(sheet).write(), *undeclared_html(sheet)]
     # What is looked through by the search
     index = f'<script type="text/plain" id=index>{packed(chr(10).join(tree.index()))}</script>\n'
     parts.append(f"</main>\n{index}<script>{script}</script>\n</body>\n</html>\n")

@@ -7,13 +7,12 @@ import base64
 import zlib
 from collections.abc import Callable, Iterator
 from dataclasses import dataclass, field
-from html import escape
 
 from acpidis_tools.comparison import Comparison
 from acpidis_tools.decoding import Decoder
 from acpidis_tools.errors import Fault
 from acpidis_tools.listing import Line, Listing, NoListing, Path, path_of, path_text, read_listing
-from acpidis_tools.names import PREDEFINED, Meaning, Names, Sort
+from acpidis_tools.names import PREDEFINED, Meaning, Names, Sort, Uses
 
 # The page of a longer listing has its lines packed.
 LONG_TEXT = 200_000
@@ -37,10 +36,11 @@ class Sheet:
     paths: set[Path] | None = None
 
     @classmethod
-    def of(cls, text: bytes, is_packed: bool = False) -> Sheet:
-        """That of a listing's text."""
+    def of(cls, text: bytes, is_packed: bool | None = None) -> Sheet:
+        """That of a listing's text, which is packed where it is long, if nothing else is said."""
         listing = read_listing(text)
         names = Names(listing)
+        is_packed = len(text) > LONG_TEXT if is_packed is None else is_packed
         return cls(listing, names, Decoder(listing, names), is_packed=is_packed)
 
     def mark(self, path: Path | None) -> str:
@@ -52,6 +52,11 @@ class Sheet:
     def has_path(self, path: Path) -> bool:
         return self.paths is None or path in self.paths
 
+    def uses_html(self, uses: Uses) -> str:
+        number = lambda it: f"<a href=#{it}>{it}</a>" if self.shows(it) else f"<span>{it}</span>"
+        items = (f"<li>{path_text(path)} {' '.join(map(number, numbers))}" for path, numbers in uses.items())
+        return f"<ul>{''.join(items)}</ul>"
+
     def has_anchor(self, meaning: Meaning) -> bool:
         """Whether what a name leads to stands on the page."""
         if meaning.anchor.isdigit() or meaning.path is None:
@@ -62,14 +67,15 @@ class Sheet:
     def only(self, wanted: str) -> None:
         """Leaves what stands at and below a path, or in a file of that name."""
         path = tuple(segment.ljust(4, "_") for segment in path_of(wanted))
-        lines = self.lines_at(path) if wanted.startswith("\\") else self.lines_of(wanted)
+        if wanted.startswith("\\"):
+            lines = self.lines_at(path)
+        else:
+            lines = {it.number for block in self.listing.blocks if block.file == f'"{wanted}"' for it in block.lines}
         if not lines:
-            raise NoListing(f"nothing in it is {wanted[:80]}: --only takes a path like \\_SB_.PCI0 or a file like dsdt.dat")
-        self.shown = lines
+            ways = "a path like \\_SB_.PCI0 or a file like dsdt.dat"
+            raise NoListing(f"nothing in it is {wanted[:80]}: --only takes {ways}")
+        self.shown, self.is_packed = lines, len(lines) > LONG_TEXT // 40
         self.paths = {path for path, line in self.names.lines.items() if line.number in lines}
-
-    def lines_of(self, file: str) -> set[int]:
-        return {line.number for block in self.listing.blocks if block.file == f'"{file}"' for line in block.lines}
 
     def lines_at(self, wanted: Path) -> set[int]:
         """The lines at and below a path, with the heads and ends of the blocks that they stand in."""
@@ -89,16 +95,11 @@ class Sheet:
     def parts(self, is_wanted: Callable[[Line], bool]) -> Iterator[tuple[list[Line], list[Line]]]:
         """The lines that are wanted, each with what is in its block, behind the heads of the blocks around."""
         for block in self.listing.blocks:
-            opened: list[Line] = []
             kept_to = 0
             for place, line in enumerate(block.lines):
-                while opened and line.number > opened[-1].end:
-                    opened.pop()
                 if line.number > kept_to and is_wanted(line):
                     kept_to = max(line.number, line.end)
-                    yield opened.copy(), block.lines[place : place + kept_to - line.number + 1]
-                if line.end:
-                    opened.append(line)
+                    yield line.heads, block.lines[place : place + kept_to - line.number + 1]
 
 
 def link(path: Path) -> str:
@@ -110,20 +111,9 @@ def classed(*words: str) -> str:
     return f' class="{shown}"' if " " in shown else f" class={shown}" if shown else ""
 
 
-def counted(count: int, word: str) -> str:
-    return f"{count:,} {word}{'' if count == 1 else 's'}"
-
-
 def packed(html: str) -> str:
     return base64.b64encode(zlib.compress(html.encode(), 6)).decode()
 
 
 def unpacked(text: str) -> str:
     return zlib.decompress(base64.b64decode(text)).decode()
-
-
-def chunk_html(first: int, count: int, texts: list[str], html: str) -> str:
-    """Some lines as plain text, which can be found and printed, and what they become when they are seen."""
-    head = f'<pre class=chunk style=--n:{len(texts)} data-line={first} data-count={count} data-packed="{packed(html)}">'
-    text = "\n".join(texts)
-    return f"{head}{escape(text)}</pre>\n"

@@ -7,7 +7,7 @@ from collections.abc import Iterable
 from html import escape
 
 from acpidis_tools.errors import raw_lines
-from acpidis_tools.listing import Path, Row, path_of, path_text
+from acpidis_tools.listing import Path, path_of, path_text
 from acpidis_tools.names import PREDEFINED
 from acpidis_tools.page.sheet import Sheet, classed, link, packed
 from acpidis_tools.standard import DEVICE_NAMES
@@ -21,22 +21,19 @@ MANY = 60
 Node = namedtuple("Node", "kind marks is_maybe below", defaults=["", "", False, 0])
 
 
-def nodes_of(rows: Iterable[Row], added: Iterable[Path]) -> dict[Path, Node]:
-    """The declared paths and those on the way to them, each before what is below it."""
-    nodes = {row.path: Node(row.kind, row.marks, row.is_maybe) for row in rows}
-    nodes |= {path: Node("added") for path in added}
-    below = Counter(path[:length] for path in nodes for length in range(1, len(path)))
-    return {path: nodes.get(path, Node())._replace(below=below[path]) for path in sorted(nodes.keys() | below.keys())}
-
-
 class TreeWriter:
-    """`identifiers` are those of devices by the devices' paths."""
+    """`nodes` are the declared paths and those on the way to them, each before what is below it, `identifiers` those of
+    devices by the devices' paths."""
 
     def __init__(self, sheet: Sheet):
         self.sheet = sheet
         rows = [row for row in sheet.listing.rows if sheet.has_path(row.path)]
         self.counts = Counter(row.kind.split()[0] for row in rows)
-        self.nodes = nodes_of(rows, sheet.comparison.adds if sheet.comparison else ())
+        nodes = {row.path: Node(row.kind, row.marks, row.is_maybe) for row in rows}
+        nodes |= {path: Node("added") for path in (sheet.comparison.adds if sheet.comparison else ())}
+        below = Counter(path[:length] for path in nodes for length in range(1, len(path)))
+        paths = sorted(nodes.keys() | below.keys())
+        self.nodes = {path: nodes.get(path, Node())._replace(below=below[path]) for path in paths}
         self.raw = {line.method for line in raw_lines(sheet.listing)}
         self.identifiers: dict[Path, list[str]] = defaultdict(list)
         for line in sheet.listing.lines:
@@ -77,12 +74,9 @@ class TreeWriter:
         below = f" <small>{node.below:,}</small>" if node.below else ""
         ids = " ".join(dict.fromkeys(self.identifiers.get(path, ())))
         named = f" <small class=id>{escape(ids)}</small>" if ids else ""
-        return f"{self.head_html(path, node, mark)}{kind}{marks}{below}{named}"
-
-    def head_html(self, path: Path, node: Node, mark: str) -> str:
-        if self.is_linked(path, node):
-            return f"<a{classed(mark)} href=#{path_text(path)}>{path[-1]}</a>"
-        return f"<span id={path_text(path)}>{path[-1]}</span>"
+        is_linked = self.is_linked(path, node)
+        tag, of = ("a", f"{classed(mark)} href=#{path_text(path)}") if is_linked else ("span", f" id={path_text(path)}")
+        return f"<{tag}{of}>{path[-1]}</{tag}>{kind}{marks}{below}{named}"
 
     def is_linked(self, path: Path, node: Node) -> bool:
         external = None if path in self.sheet.names.lines else self.sheet.names.externals.get(path)
