@@ -199,6 +199,16 @@ def many_methods(count):
     return each(count, lambda name: method(name, 2, bytes.fromhex("7068607261696aa460")))
 
 
+def devices(count):
+    """So many methods, 20 in each Device of a bus, which name a method beside them and one at the root; and as many
+    Packages of constants."""
+    bodies = (b"\x70" + segment((number + 1) % 20) + b"\x60\xa4GLOB" for number in range(20))
+    inner = b"".join(method(segment(number), 0, body) for number, body in enumerate(bodies))
+    inner += b"".join(name(segment(20 + number), b"\x12\x08\x04\x0a\x05\x00\x01\x0a\x06") for number in range(20))
+    bus = device(each(mixed(count // 20), partial(device, inner)), b"PCI0")
+    return method(b"GLOB", 0, b"\xa4\x01") + scope(b"_SB_", bus)
+
+
 def buffer(size):
     return name(b"BUF_", package(b"\x11", b"\x0e" + bytes(8) + b"\xff" * (size - HEADER_BYTES - 32)))
 

@@ -1,10 +1,10 @@
 #!/usr/bin/env python3
 """Counts what a run costs where no contract speaks of it: writes, memory let go behind the last one, threads, page
-faults, and the processor time of shapes that would take long without the ways that are there for them.
+faults, instructions, and the processor time of shapes that would take long without the ways that are there for them.
 
 usage: tests/costs.py [PROGRAM]
 
-PROGRAM is out/acpidis if left out. It needs a C compiler, for refusals.c. The last line is 'N passed, N failed'.
+PROGRAM is out/acpidis if left out. It needs a C compiler, for refusals.c, and valgrind. The last line is 'N passed, N failed'.
 """
 
 from functools import partial
@@ -39,6 +39,8 @@ BOUNDED = {
 # The same of a quarter of a shape that is listed: its tables keep no terms, which would take 40 bytes and more.
 TOLD = {"scopes": 16, "external": 16}
 MOST_SECONDS, STARTED_BYTES = 2, 40_000_000
+# Devices as firmware has them, and how many instructions a run by one worker executes for each byte of them.
+DEVICES, MOST_INSTRUCTIONS = 10_000, 400
 
 
 def costs_of(program, folder, make, most, *options):
@@ -64,6 +66,9 @@ def measure(program, room):
     yield f"writes of {length} bytes", writes, length // LEAST_WRITE
     yield "blocks let go behind the last write", freed, MOST_FREED
     yield "page faults of a small set", small.faults - least.faults, MOST_FAULTS
+    folder = written(room / "devices", tables(shapes.devices(DEVICES)))
+    count = instructions(room, program, "--workers", "1", folder) // (folder / "dsdt.dat").stat().st_size
+    yield "instructions for a byte of devices", count or MOST_INSTRUCTIONS + 1, MOST_INSTRUCTIONS
     for name, (make, most) in SHAPES.items():
         answer = costs_of(program, room / name, lambda: tables(make()), most, "--check")
         yield f"seconds: {name}", round(answer.processor, 2), most

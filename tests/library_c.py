@@ -17,14 +17,14 @@ import importlib
 import itertools
 import os
 import random
-import re
 import shutil
 import subprocess
 import sys
 
-from tally import DEMO, PROGRAM, TOP, Tally, asked, written
+from tally import DEMO, PROGRAM, TOP, Tally, asked, instructions, written
+import hostile_shapes as shapes
 from compare import laid
-from made_aml import device, each, method, mixed, scope, segment, tables
+from made_aml import method, tables
 from made_sets import SetMaker
 from running import Options
 
@@ -228,23 +228,13 @@ def try_page(checks, acpidis, room):
     checks.is_so(f"the page: {ran.stdout.decode()}{ran.stderr.decode()}", good)
 
 
-def devices(count):
-    """So many methods, 20 in each Device of a bus, which name a method beside them and one at the root."""
-    bodies = (b"\x70" + segment((number + 1) % 20) + b"\x60\xa4GLOB" for number in range(20))
-    inner = b"".join(method(segment(number), 0, body) for number, body in enumerate(bodies))
-    bus = device(b"PCI0", each(mixed(count // 20), lambda name: device(name, inner)))
-    return tables(method(b"GLOB", 0, b"\xa4\x01") + scope(b"_SB_", bus))
-
-
 def try_cost(checks, room, lib, program):
     """The instructions of the example, which opens a set, takes its text and closes it, beside those of the program with
     one worker."""
-    folder, example = written(room / "devices", devices(10_000)), room / "example"
+    folder, example = written(room / "devices", tables(shapes.devices(10_000))), room / "example"
     compiled(checks, "gcc", "-std=c99", "-O2", *STRICT, LIBRARY / "example.c", *shared(lib), "-o", example)
-    counts = []
-    for words in (program, "--workers", "1"), (example,):
-        ran = run("valgrind", "--tool=callgrind", f"--callgrind-out-file={room / 'counts'}", *words, "--any-run", folder)
-        counts.append(int((re.search(rb"Collected : (\d+)", ran.stderr) or [0, 0])[1]))
+    ways = (program, "--workers", "1"), (example,)
+    counts = [instructions(room, *words, "--any-run", folder) for words in ways]
     print("instructions of the program, and of a call of the library: %d, %d" % tuple(counts))
     checks.is_so(f"what a call takes: {counts}", 0 < counts[1] <= MOST_COST * counts[0])
 

@@ -8,6 +8,7 @@ import importlib.util
 import math
 import os
 import pathlib
+import re
 import resource
 import shutil
 import subprocess
@@ -132,6 +133,13 @@ def timed(run: Callable, *words: object, most: float = math.inf, **more: object)
         if least < most:
             break
     return done, least
+
+
+def instructions(room: pathlib.Path, *command: object) -> int:
+    """How many instructions a program executes, as valgrind counts them; 0 where it can't."""
+    words = ["valgrind", "--tool=callgrind", f"--callgrind-out-file={room / 'counts'}", *map(str, command)]
+    ran = subprocess.run(words, stdout=subprocess.DEVNULL, stderr=subprocess.PIPE, check=False)
+    return int((re.search(rb"Collected : (\d+)", ran.stderr) or [0, 0])[1])
 
 
 def shim_in(room: pathlib.Path) -> pathlib.Path | None:
