@@ -13,7 +13,10 @@ returns g c =
     let f = g.W.Write.contents in
     let tables = c.args.tables in
     let all = map.entries tables.set.now.space.declarations in
-    prints_then f c.args.out.now c.print_count.new.out c.print_texts.new.out (count_line (length all)) (flat_map row_line all)
-    (subst (λ n. Prints f c.args.out.now c.print_count.new.out (count_line n)) c.row_count.ensures c.print_count.ensures)
+    prints_then f c.args.out.now c.print_count.new.out c.print_texts.new.out
+    (count_line (length all)) (flat_map row_line all)
+    (subst (λ n. Prints f c.args.out.now c.print_count.new.out (count_line n))
+    c.row_count.ensures c.print_count.ensures)
     (subst (Prints f c.print_count.new.out c.print_texts.new.out)
-    (sym (lines_of all tables.rows.now (sym c.is_empty.ensures ∙ c.if-is_empty.false)) ∙ tables.lines) c.print_texts.ensures)
+    (sym (lines_of all tables.rows.now (sym c.is_empty.ensures ∙ c.if-is_empty.false)) ∙ tables.lines)
+    c.print_texts.ensures)
