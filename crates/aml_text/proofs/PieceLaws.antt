@@ -1,6 +1,6 @@
 -- The texts of pieces, one behind the other, are the lines of the rows.
-use Rattle.aml_text.proofs.Common.{◌≡◌, ℕ, suc, ◌+◌, ◌≤◌, List, [], ◌∷◌, ◌++◌, flat_map, length, drop, sym, ap, ◌∙◌, arith, refl}
-use Rattle.aml_text.proofs.Common.{true≢false, is_some, Some, slice_get, append-nil, Seg, row_line}
+use Rattle.aml_text.proofs.Common.{◌≡◌, ℕ, suc, ◌+◌, ◌≤◌, List, [], ◌∷◌, ◌++◌, flat_map, length, drop, sym, ap}
+use Rattle.aml_text.proofs.Common.{◌∙◌, arith, refl, true≢false, is_some, Some, slice_get, append-nil, Seg, row_line}
 use Rattle.std.specs.Prelude.{◌*◌, false, nat_eq, take, Vec}
 use Rattle.std.specs.Global.{Global}
 use Rattle.std.proofs.lemmas.List.{take-append-drop, length-drop, drop-drop}
@@ -18,12 +18,13 @@ pieces_are rows (text ∷ texts) few each =
     (λ n t is. each (suc n) t is ∙ ap (λ r. flat_map row_line (take 512 r))
     (ap (λ k. drop k rows) {x = suc n * 512} {y = 512 + n * 512} (omega arith) ∙ sym (drop-drop (n * 512) 512 rows))) in
     (λ i. each 0 text refl i ++ rest i)
-    ∙ sym (flat_map-append row_line (take 512 rows) (drop 512 rows)) ∙ ap (flat_map row_line) (take-append-drop 512 rows)
+    ∙ sym (flat_map-append row_line (take 512 rows) (drop 512 rows))
+    ∙ ap (flat_map row_line) (take-append-drop 512 rows)
 
 -- where no row is left to be printed, the texts are the lines of all
 pub pieces_all : (all left : List (List Seg × Declared)) (texts : List (Vec ℕ Global))
-    → flat_map (λ t. t.items) texts ++ flat_map row_line left ≡ flat_map row_line all → is_some (slice_get left 0) ≡ false
-    → flat_map (λ t. t.items) texts ≡ flat_map row_line all
+    → flat_map (λ t. t.items) texts ++ flat_map row_line left ≡ flat_map row_line all
+    → is_some (slice_get left 0) ≡ false → flat_map (λ t. t.items) texts ≡ flat_map row_line all
 pieces_all all [] texts so_far none = sym (append-nil (flat_map (λ t. t.items) texts)) ∙ so_far
 pieces_all all (row ∷ left) texts so_far none = absurd (true≢false none)
 

@@ -1,5 +1,6 @@
 -- The second part of a listing: the namespace, a line for each declared path.
-use Rattle.std.specs.Prelude.{ℕ, ◌*◌, Bool, nat_lt, decimal, List, [], ◌∷◌, ◌++◌, Vec, map, flat_map, length, cond, take, drop}
+use Rattle.std.specs.Prelude.{ℕ, ◌*◌, Bool, nat_lt, decimal, List, [], ◌∷◌, ◌++◌, Vec, map, flat_map}
+use Rattle.std.specs.Prelude.{length, cond, take, drop}
 use Rattle.std.specs.Global.{Global}
 use Rattle.aml_names.specs.declared.segments.Seg.{Seg}
 use Rattle.aml_namespace.specs.Kinds.{Kind}

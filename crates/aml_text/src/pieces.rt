@@ -1,7 +1,8 @@
 //! The rows of a large namespace in pieces, each of which any worker prints by itself.
 #![tactic(auto, using(crate::proofs::RowLaws::printing))]
 
-ghost use Rattle.std.specs.Prelude.{◌≡◌, ◌<◌, ◌≤◌, ◌+◌, ◌*◌, ◌++◌, length, flat_map, IfNone, IfSome, vec_capacity, vec_len};
+ghost use Rattle.std.specs.Prelude.{◌≡◌, ◌<◌, ◌≤◌, ◌+◌, ◌*◌, ◌++◌, length, flat_map, IfNone, IfSome};
+ghost use Rattle.std.specs.Prelude.{vec_capacity, vec_len};
 ghost use Rattle.text_writer.specs.Prints.{Prints};
 ghost use Rattle.aml_text.specs.Rows.{piece_of, row_line};
 

@@ -12,5 +12,6 @@ loop-text-preserved g c =
     subst (Prints f c.args.out.now c.put.new.self)
     (flat_map_more (λ t. t.items) [] done text
     ∙ ap (flat_map (λ t. t.items))
-    (sym (take_more texts c.loop-text.text-index text c.loop-text-test.true ∙ ap (λ t. done ++ t ∷ []) (sym c.text-item.is))))
+    (sym (take_more texts c.loop-text.text-index text c.loop-text-test.true
+    ∙ ap (λ t. done ++ t ∷ []) (sym c.text-item.is))))
     (prints_then f _ _ _ _ _ c.loop-text.invariant (rw c.as_slice.ensures.value at c.put.ensures))
