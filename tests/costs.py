@@ -9,7 +9,7 @@ PROGRAM is out/acpidis if left out. It needs a C compiler, for refusals.c, and v
 
 from functools import partial
 
-from tally import DEMO, PROGRAM, Tally, asked, run, shim_in, timed, written
+from tally import DEMO, PROGRAM, Tally, asked, instructions, run, shim_in, timed, written
 import hostile_shapes as shapes
 import measuring
 from made_aml import tables
