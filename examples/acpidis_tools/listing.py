@@ -9,6 +9,7 @@ import pathlib
 import re
 import stat
 from collections import namedtuple
+from functools import lru_cache
 from typing import BinaryIO
 
 SEGMENT = r"[A-Z_][A-Z0-9_]{3}"
@@ -36,6 +37,8 @@ OPCODES = (pathlib.Path(__file__).parent / "opcodes.txt").read_text()
 TERMS = {"Raw", "Reserved", "Access", "ExtendedAccess", "Connection"}
 TERMS.update(re.findall(r"^[0-9A-F]+ (\w+)", OPCODES, re.MULTILINE))
 BLOCK = re.compile(rf"DefinitionBlock \(({TEXT})\) {{")
+# So many lines share their pieces with those that are alike.
+MOST_KEPT = 10_000
 OF_SHELL = ("/dev/stdin", "/dev/fd/", "/dev/null", "/proc/")
 DEFINITION_BLOCKS = ('"DSDT"', '"SSDT"')
 
@@ -130,6 +133,16 @@ class Listing(namedtuple("Listing", "dumps rows blocks line_count above")):
         return [line for block in self.blocks for line in block.lines]
 
 
+@lru_cache(maxsize=MOST_KEPT)
+def pieces_of(bare: str, is_head: bool) -> list[str]:
+    """The pieces of a line without its indent, which lines that are alike share; none where it is none of a block."""
+    pieces = WORD.split(bare) if bare != "}" else ["}"]
+    is_wrong = len(pieces) == 1 and bare != "}" or bare.startswith("Raw") and not RAW.fullmatch(bare)
+    # A name has no small letter.
+    is_wrong = is_wrong or not is_head and bare[0].isupper() and bare[1].islower() and pieces[1] not in TERMS
+    return [] if is_wrong or "".join(pieces[::2]).strip(BETWEEN) else pieces
+
+
 class Reader:
     """Goes over the lines of a text, which are counted from 1."""
 
@@ -191,12 +204,8 @@ class Reader:
         text = self.peek()
         bare = text.lstrip(" ")
         depth = above.depth + (bare != "}") if above else 0
-        pieces = WORD.split(bare) if bare != "}" else ["}"]
-        is_wrong = len(text) - len(bare) != 2 * depth or len(pieces) == 1 and bare != "}"
-        is_wrong = is_wrong or bare.startswith("Raw") and not RAW.fullmatch(bare)
-        # A name has no small letter.
-        is_wrong = is_wrong or depth and bare[0].isupper() and bare[1].islower() and pieces[1] not in TERMS
-        if is_wrong or "".join(pieces[::2]).strip(BETWEEN):
+        pieces = pieces_of(bare, above is None)
+        if not pieces or len(text) - len(bare) != 2 * depth:
             raise self.refuse()
         self.at += 1
         return Line(self.at, depth, pieces, above)
