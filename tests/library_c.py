@@ -17,6 +17,7 @@ import importlib
 import itertools
 import os
 import random
+import re
 import shutil
 import subprocess
 import sys
@@ -77,7 +78,8 @@ def link(room):
 def try_edge(checks, room, lib, program):
     """The calls of library_c.c, over a dump of a few bytes, and over one for which a set takes several large blocks."""
     source, few = TOP / "tests/library_c.c", (DEMO / "dsdt.dat").read_bytes()
-    dumps = {len(dump): written(room / f"one_{len(dump)}", {"dump": dump}) for dump in (few, devices(300)["dsdt.dat"])}
+    many = tables(shapes.devices(300))["dsdt.dat"]
+    dumps = {len(dump): written(room / f"one_{len(dump)}", {"dump": dump}) for dump in (few, many)}
     trials = {
         "plain": ((), (), (), dumps),
         "plain, without pieces": (ALONE, (), ("short",), dumps),
