@@ -2,8 +2,7 @@
 -- path in a run is one of the path's kinds (`among`), and so its count is one of those that are met (`count_met`).
 use Rattle.std.specs.Prelude.{◌||◌, ◌&&◌, ◌==◌, flat_map, option_to_list}
 use Rattle.std.proofs.Common.{◌≡◌, ℕ, Bool, true, false, not, cond, List, [], ◌∷◌, ◌++◌, map, Option, Some, None}
-use Rattle.std.proofs.Common.{IfSome, IsSomeAnd, is_some, refl}
-use Rattle.std.proofs.Common.{sym, ap, subst, ◌∙◌, arith}
+use Rattle.std.proofs.Common.{IfSome, IsSomeAnd, is_some, refl, sym, ap, subst, ◌∙◌, arith}
 use Rattle.std.proofs.lemmas.Bool.{false≢true}
 use Rattle.std.proofs.lemmas.Bool.Decides.{nat_tests}
 use Rattle.std.proofs.lemmas.Option.{cond_some}
@@ -19,11 +18,9 @@ use Rattle.aml_namespace.specs.Predefined.{predefined}
 use Rattle.aml_namespace.specs.Namespace.{Entry, declares, external, given}
 use Rattle.aml_namespace.specs.Namespace.{namespace_of, declared_at, same_path, outs_at, kind_at, decides}
 use Rattle.aml_namespace.specs.Namespace.{target_count, count_of_kind, count_at, arity_at, arity_of, is_outside}
-use Rattle.aml_namespace.specs.Runs.{outlook_of, surely_declared}
-use Rattle.aml_namespace.specs.Runs.{kinds_at, sure_at, target_counts, counts_by, counts_of, counts_met, common}
-use Rattle.aml_namespace.specs.Runs.{arity_by_kinds}
-use Rattle.aml_namespace.specs.Runs.{arity_met, agreed_arity, IsRun, ended, taken, missed, aimed, leads, stands}
-use Rattle.aml_namespace.specs.Runs.{EveryRunAgrees}
+use Rattle.aml_namespace.specs.Runs.{outlook_of, surely_declared, kinds_at, sure_at, target_counts, counts_by}
+use Rattle.aml_namespace.specs.Runs.{counts_of, counts_met, common, arity_by_kinds, arity_met, agreed_arity, IsRun}
+use Rattle.aml_namespace.specs.Runs.{ended, taken, missed, aimed, leads, stands, EveryRunAgrees}
 
 -- ---- Lists of which each element is something.
 

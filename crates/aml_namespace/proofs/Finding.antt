@@ -3,8 +3,7 @@
 -- further up is known.
 use Rattle.std.specs.Prelude.{◌||◌, ◌&&◌, option_to_list}
 use Rattle.std.proofs.Common.{◌≡◌, ℕ, zero, suc, ◌≤◌, Bool, true, false, not, cond, List, [], ◌∷◌, ◌++◌, take, length}
-use Rattle.std.proofs.Common.{Option, Some, None, is_some, refl}
-use Rattle.std.proofs.Common.{sym, ap, ◌∙◌, arith, length-append}
+use Rattle.std.proofs.Common.{Option, Some, None, is_some, refl, sym, ap, ◌∙◌, arith, length-append}
 use Rattle.std.proofs.lemmas.Bool.{false≢true}
 use Rattle.std.proofs.lemmas.List.{length-take-le}
 use Rattle.std.proofs.lemmas.Option.{same_Some}

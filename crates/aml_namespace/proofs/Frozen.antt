@@ -3,8 +3,7 @@ use Rattle.std.specs.Prelude.{◌||◌, ◌&&◌}
 use Rattle.std.proofs.Common.{◌≡◌, Bool, true, false, cond, List, [], ◌∷◌, refl, ap}
 use Rattle.std.proofs.lemmas.Bool.{false≢true}
 use Rattle.aml_namespace.specs.Kinds.{Kind}
-use Rattle.aml_namespace.specs.Namespace.{Entry, declares, external, given}
-use Rattle.aml_namespace.specs.Namespace.{same_path}
+use Rattle.aml_namespace.specs.Namespace.{Entry, declares, external, given, same_path}
 use Rattle.aml_namespace.specs.Runs.{surely_declared, SureStays}
 
 still : (same sure more : Bool) (k : Kind) (old new : List Kind) → ((same && sure) || more) ≡ true

@@ -25,7 +25,7 @@ use Rattle.aml_namespace.specs.Runs.{aimed, means, is_known}
 use Rattle.aml_namespace.proofs.Agreeing.{among, unsure}
 use Rattle.aml_namespace.proofs.Finding.{not_found}
 use Rattle.aml_namespace.proofs.Leading.{whole_run, none_found, no_more, every_run_leads_there}
-use Rattle.aml_namespace.proofs.Quick.{first_counts}
+use Rattle.aml_namespace.proofs.Unmet.{first_counts}
 use Rattle.aml_namespace.proofs.Showing.{same_is, none_is}
 
 -- ---- An entry more.

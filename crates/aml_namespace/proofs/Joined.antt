@@ -18,7 +18,7 @@ use Rattle.aml_namespace.specs.declared.tallies.Tally.{Tally}
 use Rattle.std.specs.FinSet as set
 use Rattle.aml_names.specs.declared.segments.Seg.{Seg}
 use Rattle.aml_names.specs.Paths.{PathSet}
-use Rattle.aml_namespace.specs.Namespace.{target_count, first_given, arity_at, first_of}
+use Rattle.aml_namespace.specs.Namespace.{target_count, first_count, arity_at, first_of}
 use Rattle.aml_namespace.specs.Searching.{agreed_at}
 use Rattle.aml_namespace.specs.Runs.{Outlook, counts_by, counts_of, counts_met, target_counts, arity_met}
 use Rattle.aml_namespace.specs.Runs.{is_alias, opens_scope}
@@ -222,9 +222,9 @@ counts_step f c x xs = ap (joined c) (counts_more (f x) (flat_map f xs)) ∙ sym
 module _ (o : Outlook) (unknown_zero : Bool) (locals : PathSet) where
   pub agreed_by : (paths : List (List Seg)) (c : Counts) → c ≡ counts_in (counts_met o locals paths)
       → agreed_at o unknown_zero locals paths
-      ≡ chosen c (first_given o.first paths) (arity_at o.first unknown_zero locals paths (first_of o.first locals paths))
+      ≡ chosen c (first_count o.first.givens paths) (arity_at o.first unknown_zero locals paths (first_of o.first locals paths))
   agreed_by paths c is = chosen_met (counts_met o locals paths) _ _
-      ∙ ap (λ x. chosen x (first_given o.first paths) (arity_at o.first unknown_zero locals paths (first_of o.first locals paths))) (sym is)
+      ∙ ap (λ x. chosen x (first_count o.first.givens paths) (arity_at o.first unknown_zero locals paths (first_of o.first locals paths))) (sym is)
 
   -- of a name that leads to one path
   pub placed_met : (p : List Seg) → set.contains locals p ≡ false

@@ -15,8 +15,7 @@ use Rattle.aml_namespace.specs.Predefined.{predefined}
 use Rattle.aml_namespace.specs.Namespace.{Entry, declares, external, given}
 use Rattle.aml_namespace.specs.Namespace.{namespace_of, same_path, kind_at, is_outside}
 use Rattle.aml_namespace.specs.Runs.{outlook_of, kinds_at, sure_at, is_known, first_agreed, agreed_or, may_miss, IsRun}
-use Rattle.aml_namespace.specs.Runs.{ended, taken}
-use Rattle.aml_namespace.specs.Runs.{missed, least_run, means, EveryRunLeadsThere}
+use Rattle.aml_namespace.specs.Runs.{ended, taken, missed, least_run, means, EveryRunLeadsThere}
 use Rattle.aml_namespace.proofs.Agreeing.{among, unsure}
 
 pub whole_run : (es : List Entry) → IsRun es es

@@ -6,7 +6,7 @@ pub mod Given
 mod Agreeing
 pub mod Strict
 mod Leading
-mod Quick
+pub mod Unmet
 mod RunRows
 mod Showing
 mod Frozen

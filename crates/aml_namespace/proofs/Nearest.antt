@@ -2,8 +2,7 @@
 -- down than it that none does (`passed_by`). Where it stands at a depth or further down (`local_met`) the search ends
 -- at it (`local_there`); else no local stands at the depth (`no_local`, `other_there`).
 use Rattle.std.proofs.Common.{◌≡◌, ℕ, ◌<◌, ◌≤◌, List, [], ◌∷◌, ◌++◌, ◌-◌, Bool, true, false, cond, Option, Some, None}
-use Rattle.std.proofs.Common.{is_some, take, get_or, length, refl, sym, ap, ◌∙◌}
-use Rattle.std.proofs.Common.{subst, arith, IfSome}
+use Rattle.std.proofs.Common.{is_some, take, get_or, length, refl, sym, ap, ◌∙◌, subst, arith, IfSome}
 use Rattle.std.specs.Prelude.{nat_le}
 use Rattle.std.specs.FinSet as set
 use Rattle.std.proofs.lemmas.Bool.{ne_eqb, leb-true, leb-false, false≢true}

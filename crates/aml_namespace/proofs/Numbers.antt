@@ -1,6 +1,6 @@
--- What is known with paths more that have numbers (`Grows`): none more, and some behind some more (`grows_not`,
--- `grows_on`); each number has its path still (`still_at`, `still_path`).
-use Rattle.std.proofs.Common.{◌≡◌, ℕ, zero, suc, ◌<◌, List, [], ◌∷◌, ◌++◌, length, Some, sym, ap, ◌∙◌, append_assoc, length-append, arith}
+-- What is known with paths more that have numbers (`Grows`): none more (`grows_not`); each number has its path still
+-- (`still_at`, `still_path`).
+use Rattle.std.proofs.Common.{◌≡◌, ℕ, zero, suc, ◌<◌, List, [], ◌∷◌, ◌++◌, length, Some, sym, ap, ◌∙◌, length-append, arith}
 use Rattle.std.proofs.lemmas.List.{append-nil, get_or_append_left}
 use Rattle.std.proofs.lemmas.Option.{none-some}
 use Rattle.std.specs.Prelude.{slice_get}
@@ -9,12 +9,6 @@ use Rattle.aml_namespace.specs.Known.{Known, Grows, StandsAt, with_paths, path_a
 
 pub grows_not : (k : Known) → Grows k k
 grows_not k = ([], ap (with_paths k) (sym (append-nil k.paths)))
-
-pub grows_on : (old new later : Known) → Grows old new → Grows new later → Grows old later
-grows_on old new later (some, one) (more, two) = (
-  some ++ more,
-  two ∙ ap (λ (k : Known). with_paths k (k.paths ++ more)) one ∙ ap (with_paths old) (append_assoc old.paths some more),
-)
 
 -- what is read of a list is read of a longer one
 read_still : (xs ys : List (List Seg)) (i : ℕ) (p : List Seg) → slice_get xs i ≡ Some p → slice_get (xs ++ ys) i ≡ Some p

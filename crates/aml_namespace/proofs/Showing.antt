@@ -2,8 +2,7 @@
 -- other paths that may be missing (`shown`).
 use Rattle.std.specs.Prelude.{◌||◌, ◌&&◌, ◌==◌, ◌≢◌, option_to_list, flat_map}
 use Rattle.std.proofs.Common.{◌≡◌, ℕ, Bool, true, false, not, cond, List, [], ◌∷◌, ◌++◌, Option, Some, None, is_some}
-use Rattle.std.proofs.Common.{refl, sym, ap, subst, ◌∙◌, arith, ◌⊎◌, inl, inr}
-use Rattle.std.proofs.Common.{is_eq, Ordering, Less, Equal, Greater}
+use Rattle.std.proofs.Common.{refl, sym, ap, subst, ◌∙◌, arith, ◌⊎◌, inl, inr, is_eq, Ordering, Less, Equal, Greater}
 use Rattle.std.proofs.lemmas.Bool.{false≢true}
 use Rattle.std.proofs.lemmas.Bool.Decides.{nat_tests}
 use Rattle.std.specs.List.{AllByRecursion, find, list_all}
@@ -15,9 +14,8 @@ use Rattle.aml_names.specs.Searching.{candidates}
 use Rattle.aml_namespace.specs.Kinds.{Kind}
 use Rattle.aml_namespace.specs.declared.kinds.Kind.TheVariants.{Method, Alias}
 use Rattle.aml_namespace.specs.Predefined.{predefined}
-use Rattle.aml_namespace.specs.Namespace.{Entry, declares, external, given}
-use Rattle.aml_namespace.specs.Namespace.{namespace_of, declared_at, same_path, outs_at, kind_at, decides, is_outside}
-use Rattle.aml_namespace.specs.Namespace.{count_of_kind, count_at, arity_at}
+use Rattle.aml_namespace.specs.Namespace.{Entry, declares, external, given, namespace_of, declared_at, same_path}
+use Rattle.aml_namespace.specs.Namespace.{outs_at, kind_at, decides, is_outside, count_of_kind, count_at, arity_at}
 use Rattle.aml_namespace.specs.Runs.{outlook_of, surely_declared}
 use Rattle.aml_namespace.specs.Runs.{kinds_at, sure_at, counts_by, counts_of, counts_met, common, IsRun, ended, taken}
 use Rattle.aml_namespace.specs.Runs.{missed, least_run, IsNoAlias, MeetNoAlias, HasInRun, EachIsMet, RunsDiffer}

@@ -12,16 +12,11 @@ use Rattle.aml_names.specs.declared.names.Name.{Name}
 use Rattle.aml_names.specs.Paths.{PathSet, path_cmp, paths_total, exact_paths}
 use Rattle.aml_namespace.specs.Kinds.{Kind}
 use Rattle.aml_namespace.specs.Namespace.{namespace_of, kind_at, count_at, found, Entry, Body, declares, external}
-use Rattle.aml_namespace.specs.Namespace.{given}
-use Rattle.aml_namespace.specs.Namespace.{declared_at, outs_at, given_at, same_path}
-use Rattle.aml_namespace.specs.Namespace.{greater}
+use Rattle.aml_namespace.specs.Namespace.{given, declared_at, outs_at, given_at, same_path, greater}
 use Rattle.aml_namespace.specs.Runs.{Outlook, outlook_of, agreed_path, kinds_at, surely_declared, sure_at, times_at}
 use Rattle.aml_namespace.specs.Known.{Known, Declared, namespace_in, outlook_in, StandsFor, is_declared, known, before}
-use Rattle.aml_namespace.specs.Known.{again, behind, declaration_at}
-use Rattle.aml_namespace.specs.Known.{once, with_declaration, declared_kind, kinds_by, sure_by, with_again}
-use Rattle.aml_namespace.specs.Known.{with_external}
-use Rattle.aml_namespace.specs.Known.{with_given}
-use Rattle.aml_namespace.specs.Known.{with_paths, of_paths, Grows}
+use Rattle.aml_namespace.specs.Known.{again, behind, declaration_at, once, with_declaration, declared_kind, kinds_by}
+use Rattle.aml_namespace.specs.Known.{sure_by, with_again, with_external, with_given, with_paths, of_paths, Grows}
 
 tied_path : (p q : List Seg) → same_path q p ≡ true → q ≡ p
 tied_path p q e = tells_apart exact_paths q p e

@@ -13,14 +13,12 @@ use Rattle.aml_names.specs.Searching.{candidates}
 use Rattle.aml_namespace.specs.Kinds.{Kind}
 use Rattle.aml_namespace.specs.declared.kinds.Kind.TheVariants.{Method, Alias}
 use Rattle.aml_namespace.specs.Predefined.{predefined}
-use Rattle.aml_namespace.specs.Namespace.{Entry, declares, external, given, namespace_of}
-use Rattle.aml_namespace.specs.Namespace.{Namespace, declared_at, same_path, outs_at, kind_at, decides, is_outside}
-use Rattle.aml_namespace.specs.Namespace.{first_given}
-use Rattle.aml_namespace.specs.Namespace.{target_count, count_of_kind, count_at, arity_at, arity_of}
+use Rattle.aml_namespace.specs.Namespace.{Entry, declares, external, given, namespace_of, Namespace, declared_at}
+use Rattle.aml_namespace.specs.Namespace.{same_path, outs_at, kind_at, decides, is_outside, first_count, target_count}
+use Rattle.aml_namespace.specs.Namespace.{count_of_kind, count_at, arity_at, arity_of}
 use Rattle.aml_namespace.specs.Runs.{outlook_of, surely_declared, is_alias, is_open_alias, open_among, open_in}
 use Rattle.aml_namespace.specs.Runs.{kinds_at, sure_at, target_counts, counts_by, counts_of, counts_met, arity_met}
-use Rattle.aml_namespace.specs.Runs.{agreed_arity}
-use Rattle.aml_namespace.specs.Runs.{AreSure, StaysAsItIs}
+use Rattle.aml_namespace.specs.Runs.{agreed_arity, AreSure, StaysAsItIs}
 use Rattle.aml_namespace.proofs.Said.{no_alias}
 
 abbrev IsClosed : Kind → Type 0
@@ -145,9 +143,9 @@ stays_as_it_is es strict zero_too scope locals name =
     by : (found : Option (List Seg)) → find (decides (namespace_of es) locals) (candidates scope name) ≡ found
         → IsMet (namespace_of es) locals found (counts_met (outlook_of es) locals (candidates scope name))
         → agreed_arity (outlook_of es) zero_too scope locals name ≡ arity_of (namespace_of es) zero_too scope locals name
-    by None at is = ap (λ ns. arity_met ns (first_given (namespace_of es) (candidates scope name)) (arity_of (namespace_of es) zero_too scope locals name)) is
+    by None at is = ap (λ ns. arity_met ns (first_count (namespace_of es).givens (candidates scope name)) (arity_of (namespace_of es) zero_too scope locals name)) is
     by (Some p) at is =
-        ap (λ ns. arity_met ns (first_given (namespace_of es) (candidates scope name)) (arity_of (namespace_of es) zero_too scope locals name)) is.1
+        ap (λ ns. arity_met ns (first_count (namespace_of es).givens (candidates scope name)) (arity_of (namespace_of es) zero_too scope locals name)) is.1
         ∙ sym is.2
         ∙ sym (ap (λ o. arity_at (namespace_of es) zero_too locals (candidates scope name)
         (option_or o (find (is_outside (namespace_of es)) (candidates scope name)))) at)

@@ -1,10 +1,8 @@
 -- What a space knows, and the lists of entries that this stands for; and the declared paths in order, which are the
 -- rows of the text.
 use Rattle.std.specs.Prelude.{◌≡◌, ℕ, ◌+◌, refl, List, [], Bool, cond, ◌∷◌, ◌++◌, is_some, ◌<◌, Option, Some, None}
-use Rattle.std.specs.Prelude.{slice_get}
-use Rattle.std.specs.Prelude.{◌||◌, get_or, option_to_list}
+use Rattle.std.specs.Prelude.{slice_get, ◌||◌, get_or, option_to_list, true, false, ◌==◌}
 use Rattle.std.specs.Option.{option_map}
-use Rattle.std.specs.Prelude.{true, false, ◌==◌}
 use Rattle.std.specs.Coded.{Coded, code_by, coded×, coded_ℕ, coded_list, coded_bool}
 use Rattle.aml_names.specs.declared.segments.Seg.{Seg}
 use Rattle.aml_names.specs.Paths.{coded_path, path_cmp}

@@ -104,16 +104,16 @@ count_of_kind n (Some (Method args)) out = Some args
 count_of_kind n (Some (Alias is_open target)) out = Some (target_count (kind_at n target) (n.outs target))
 count_of_kind n (Some _) out = Some 0
 
--- the count that the user gives to the first of these paths that has one
-abbrev pub first_given : Namespace → List (List Seg) → Option ℕ
-first_given n [] = None
-first_given n (p ∷ paths) = option_or (n.givens p) (first_given n paths)
+-- the count of the first of these paths that has one
+abbrev pub first_count : (List Seg → Option ℕ) → List (List Seg) → Option ℕ
+first_count count [] = None
+first_count count (p ∷ paths) = option_or (count p) (first_count count paths)
 
 -- The count of a name that may mean some paths, and leads to one or nowhere. Where it leads nowhere: the given count,
 -- else 0 if unknown names count so, else none is known. Where it leads to one of the locals: 0. Else by the path's kind
 -- and its Externals.
 abbrev pub arity_at : Namespace → Bool → PathSet → List (List Seg) → Option (List Seg) → Option ℕ
-arity_at n z locals paths None = option_or (first_given n paths) (cond z (Some 0) None)
+arity_at n z locals paths None = option_or (first_count n.givens paths) (cond z (Some 0) None)
 arity_at n z locals paths (Some p) = cond (set.contains locals p) (Some 0) (count_of_kind n (kind_at n p) (n.outs p))
 
 -- how many arguments a name takes in a scope, by the path that it means
@@ -137,7 +137,3 @@ is_outside n p = is_some (n.outs p)
 -- how many arguments a path takes
 abbrev pub count_at : Namespace → List Seg → Option ℕ
 count_at n p = count_of_kind n (kind_at n p) (n.outs p)
-
--- how many arguments a name takes that leads nowhere
-abbrev pub unknown_count : Namespace → Bool → List (List Seg) → Option ℕ
-unknown_count n unknown_zero paths = arity_at n unknown_zero set.empty paths None

@@ -1,8 +1,7 @@
 -- What a run of the code outside methods may leave of what tables declare: entries that stand in every run or only in
 -- some, and how many arguments a name takes where every run agrees.
-use Rattle.std.specs.Prelude.{◌≡◌, ◌≢◌, ℕ, Bool, true, false, not, cond, List, [], ◌∷◌, ◌++◌, Option, Some, None}
-use Rattle.std.specs.Prelude.{◌||◌, ◌&&◌, ◌==◌, is_some, IfSome, IsSome, IsSomeAnd, IsTrue, map, flat_map}
-use Rattle.std.specs.Prelude.{option_to_list}
+use Rattle.std.specs.Prelude.{◌≡◌, ◌≢◌, ℕ, Bool, true, false, not, cond, List, [], ◌∷◌, ◌++◌, Option, Some, None, ◌||◌}
+use Rattle.std.specs.Prelude.{◌&&◌, ◌==◌, is_some, IfSome, IsSome, IsSomeAnd, IsTrue, map, flat_map, option_to_list}
 use Rattle.std.specs.Prelude.{◌+◌, slice_get, nat_lt, length, ◌⊎◌}
 use Rattle.std.specs.List.{find, list_all, list_any, AllByRecursion}
 use Rattle.std.specs.Option.{option_or}
@@ -17,8 +16,7 @@ use Rattle.aml_namespace.specs.declared.kinds.Kind.TheVariants.{Scope, Method, A
 use Rattle.aml_namespace.specs.declared.kinds.Kind.TheVariants.{ThermalZone}
 use Rattle.aml_namespace.specs.Predefined.{predefined}
 use Rattle.aml_namespace.specs.Namespace.{Entry, Body, declares, external, given, Namespace, namespace_of, same_path}
-use Rattle.aml_namespace.specs.Namespace.{kind_at}
-use Rattle.aml_namespace.specs.Namespace.{decides, is_outside, target_count, first_given, arity_of}
+use Rattle.aml_namespace.specs.Namespace.{kind_at, decides, is_outside, target_count, first_count, arity_of}
 
 -- ---- What may stand at a path.
 
@@ -131,7 +129,7 @@ arity_met (n ∷ ns) differ unmet = option_or (common (n ∷ ns)) differ
 -- the user gives it; and where nothing with a kind can be meant as it is without code outside methods.
 abbrev pub agreed_arity : Outlook → Bool → List Seg → PathSet → Name → Option ℕ
 agreed_arity o unknown_zero scope locals name = arity_met (counts_met o locals (candidates scope name))
-    (first_given o.first (candidates scope name)) (arity_of o.first unknown_zero scope locals name)
+    (first_count o.first.givens (candidates scope name)) (arity_of o.first unknown_zero scope locals name)
 
 -- ---- Which path a Scope opens, or an Alias names.
 
@@ -235,17 +233,6 @@ StaysAsItIs es =
 pub record FirstCounts (o : Outlook) : Type 0 where
   pub first : (p : List Seg) → kind_at o.first p ≡ slice_get (o.kinds p) 0
   pub unsure : (p : List Seg) → kind_at o.first p ≡ None → o.sure p ≡ false
-
--- whether a path is one of the locals, or is sure and all its counts are the same
-abbrev pub is_settled : Outlook → PathSet → List Seg → Bool
-is_settled o locals p = set.contains locals p || (o.sure p && is_some (common (counts_of o p)))
-
--- where that search finds nothing with a kind, or a path that is settled, its count is the one
-abbrev pub QuickWayHolds : Outlook → Type 0
-QuickWayHolds o =
-    (unknown_zero : Bool) (scope : List Seg) (locals : PathSet) (name : Name) →
-    IfSome (find (decides o.first locals) (candidates scope name)) (λ p. IsTrue (is_settled o locals p)) →
-    agreed_arity o unknown_zero scope locals name ≡ arity_of o.first unknown_zero scope locals name
 
 -- ---- That no more can be told.
 

@@ -18,8 +18,5 @@ pub use kinds::Kind;
 pub use laws::rows_are_declared;
 pub use predefined::predefined_kind;
 pub use rows::SpaceRow;
-pub use runs::{
-    every_run_agrees, every_run_leads_there, quick_way_holds, runs_differ, stays_as_it_is,
-    sure_stays,
-};
+pub use runs::{every_run_agrees, every_run_leads_there, runs_differ, stays_as_it_is, sure_stays};
 pub use tallies::{Counts, Tally, own_counts};

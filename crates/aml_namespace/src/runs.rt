@@ -2,9 +2,8 @@
 //! function that does nothing.
 ghost use Rattle.std.specs.Prelude.{List};
 ghost use Rattle.aml_namespace.specs.Namespace.{Entry};
-ghost use Rattle.aml_namespace.specs.Runs.{Outlook, outlook_of, EveryRunAgrees, EveryRunLeadsThere, AreSure};
-ghost use Rattle.aml_namespace.specs.Runs.{StaysAsItIs};
-ghost use Rattle.aml_namespace.specs.Runs.{FirstCounts, QuickWayHolds, EachIsMet, RunsDiffer, SureStays};
+ghost use Rattle.aml_namespace.specs.Runs.{EveryRunAgrees, EveryRunLeadsThere, AreSure, StaysAsItIs, EachIsMet};
+ghost use Rattle.aml_namespace.specs.Runs.{RunsDiffer, SureStays};
 
 /// Where the kinds that a name may mean agree on a count, the name has that count in every run in which it finds
 /// something.
@@ -26,12 +25,6 @@ pub fn runs_differ()
 /// Where all is sure nothing changes.
 pub fn stays_as_it_is()
     ensures { (es : List Entry) → AreSure es → StaysAsItIs es }
-{}
-
-/// What a search by the first declarations tells.
-pub fn quick_way_holds()
-    ensures first { (es : List Entry) → FirstCounts (outlook_of es) }
-    ensures quick { (o : Outlook) → FirstCounts o → QuickWayHolds o }
 {}
 
 /// Further declarations change nothing at a path that has a sure one.

@@ -1,6 +1,5 @@
 //! What the counts of several kinds come to.
-ghost use Rattle.std.specs.Prelude.{◌≡◌, ◌∷◌, ◌++◌, [], map, List};
-ghost use Rattle.std.specs.Prelude.{ℕ, option_to_list};
+ghost use Rattle.std.specs.Prelude.{◌≡◌, ◌∷◌, ◌++◌, [], map, List, ℕ, option_to_list};
 ghost use Rattle.aml_namespace.specs.declared.kinds.Kind.{Kind as KindOf};
 ghost use Rattle.aml_namespace.specs.Tallies.{joined, counts_in, own_count as own, tally_of};
 

@@ -1,9 +1,8 @@
 -- What a search passes over: a path that leads nowhere is unknown (`unknown_at`), and so are those of a segment between
 -- one depth and the next that may have it (`of_up`, `of_through`, `none_known_below`, `none_met_below`).
 use Rattle.std.specs.Prelude.{◌||◌}
-use Rattle.std.proofs.Common.{◌≡◌, ℕ, ◌-◌, ◌<◌, ◌≤◌, false, List, ◌++◌, length, take, Option}
-use Rattle.std.proofs.Common.{None, is_some, inl, inr, refl, sym}
-use Rattle.std.proofs.Common.{ap, subst, ◌∙◌, arith}
+use Rattle.std.proofs.Common.{◌≡◌, ℕ, ◌-◌, ◌<◌, ◌≤◌, false, List, ◌++◌, length, take, Option, None, is_some, inl, inr}
+use Rattle.std.proofs.Common.{refl, sym, ap, subst, ◌∙◌, arith}
 use Rattle.std.specs.FinMap as map
 use Rattle.std.specs.FinSet as set
 use Rattle.std.proofs.lemmas.Bool.{cases_lt}
@@ -16,7 +15,8 @@ use Rattle.aml_space.specs.Nodes.{Content, kids_of, content_of, part_by, said_by
 use Rattle.aml_namespace.specs.Known.{declared_kind, namespace_in}
 use Rattle.aml_namespace.specs.Namespace.{Namespace, kind_at, decides, is_outside}
 use Rattle.aml_namespace.specs.Predefined.{predefined}
-use Rattle.aml_space.specs.Candidates.{IsUnknown, IsNextOf}
+use Rattle.aml_space.specs.Candidates.{aside_in, IsUnknown, IsNextOf}
+use Rattle.aml_space.specs.declared.walking.Aside.{Aside}
 use Rattle.aml_children.proofs.Walks.{walk_none}
 use Rattle.aml_space.proofs.Index.{part_at}
 use Rattle.aml_namespace.proofs.NotPredefined.{predefined_deep}
@@ -46,11 +46,6 @@ module _ (n : Namespace) (path segment : List Seg) where
     ];
   }
 
-  -- the depth itself
-  pub of_itself : (from next : ℕ) → next ≡ from → IsNextOf n path segment from next
-  of_itself from next same =
-      record { within = omega (arith, same); unknown = λ d above below. absurd (omega (arith, same, above, below)) }
-
   -- one step behind another
   pub of_through : (from middle next : ℕ) → IsNextOf n path segment from middle → IsNextOf n path segment middle next
       → IsNextOf n path segment from next
@@ -68,9 +63,10 @@ module _ (n : Namespace) (path segment : List Seg) where
   of_sooner from next m less within is =
       record { within = within; unknown = λ d above below. is.unknown d (omega (arith, above, less)) below }
 
-  pub none_given_below : (d next : ℕ) → IsNextOf n path segment d next → (e : ℕ) → next < e → e ≤ d
-      → n.givens (take e path ++ segment) ≡ None
-  none_given_below d next is e more less = (is.unknown e more less).given
+  pub none_aside_below : (a : Aside) (d next : ℕ) → IsNextOf n path segment d next → (e : ℕ) → next < e → e ≤ d
+      → aside_in a n (take e path ++ segment) ≡ None
+  none_aside_below Aside.External d next is e more less = (is.unknown e more less).out
+  none_aside_below Aside.Given d next is e more less = (is.unknown e more less).given
 
   module _ (one : length segment ≡ 1) where
     no_name : (d e : ℕ) → d ≤ length path → 0 < e → e ≤ d → predefined (take e path ++ segment) ≡ None

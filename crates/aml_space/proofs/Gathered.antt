@@ -12,10 +12,8 @@ use Rattle.aml_namespace.specs.Known.{Declared}
 use Rattle.aml_children.specs.declared.children.Child.{Child}
 use Rattle.aml_children.specs.Children.{child_in}
 use Rattle.aml_space.specs.declared.nodes.Node.{Node}
-use Rattle.aml_children.specs.Numbered.{walk, own, under, gather, visited}
-use Rattle.aml_space.specs.Nodes.{kids_of, declared_of, rows_of, path_of, known_by}
-use Rattle.aml_children.specs.Numbered.{ahead}
-use Rattle.aml_space.specs.Nodes.{rows_ahead, links_of, next_node}
+use Rattle.aml_children.specs.Numbered.{walk, own, under, gather, visited, ahead}
+use Rattle.aml_space.specs.Nodes.{kids_of, declared_of, rows_of, path_of, known_by, rows_ahead, links_of, next_node}
 use Rattle.aml_space.specs.Nodes.{IsIndex}
 use Rattle.aml_children.proofs.Walks.{walk_push}
 use Rattle.aml_children.proofs.Family.{at_found}

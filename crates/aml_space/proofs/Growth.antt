@@ -1,10 +1,10 @@
 -- An index with an empty node more is an index, and knows the same (`grown_index`, `grown_known`): each path leads
 -- where it led, or, where it led nowhere, maybe to the new node, at which nothing is kept (`grown_walk`).
 use Rattle.std.specs.Prelude.{◌==◌, ◌&&◌}
-use Rattle.std.proofs.Common.{◌≡◌, ℕ, zero, suc, ◌+◌, ◌<◌, ◌≤◌, ◌^◌, Bool, true, false, cond, List, [], ◌∷◌, ◌++◌, length, Option, Some}
-use Rattle.std.proofs.Common.{None, ◌⊎◌, inl, inr, refl, sym, ap}
-use Rattle.std.proofs.Common.{subst, ◌∙◌, arith, length-append}
-use Rattle.std.specs.Option.{option_and_then}
+use Rattle.std.proofs.Common.{◌≡◌, ℕ, zero, suc, ◌+◌, ◌<◌, ◌≤◌, ◌^◌, Bool, true, false, cond, List, [], ◌∷◌, ◌++◌}
+use Rattle.std.proofs.Common.{length, Option, Some, None, ◌⊎◌, inl, inr, refl, sym, ap, subst, ◌∙◌, arith}
+use Rattle.std.proofs.Common.{length-append, IfSome, drop}
+use Rattle.std.specs.Option.{option_and_then, option_map}
 use Rattle.std.specs.Ordering.{eq_by_cmp}
 use Rattle.std.specs.FinMap as map
 use Rattle.std.proofs.lemmas.Bool.{cases_lt, ne_eqb, eq-eqb, and_parts, and_from}
@@ -16,17 +16,14 @@ use Rattle.aml_children.specs.declared.children.Child.{Child}
 use Rattle.aml_children.specs.Children.{child_in, put}
 use Rattle.aml_space.specs.declared.nodes.Node.{Node}
 use Rattle.aml_children.specs.Numbered.{walk, IsFamily, links_up, segs_down}
-use Rattle.aml_space.specs.Nodes.{Content, nothing, kids_in, kids_of, links_of, depths_of, path_of, content_in, content_of}
-use Rattle.aml_space.specs.Nodes.{part_by, known_by, IsShape}
-use Rattle.aml_space.specs.Nodes.{IsLinked, IsIndex, IsKept}
+use Rattle.aml_space.specs.Nodes.{Content, nothing, kids_in, kids_of, links_of, depths_of, path_of, content_in}
+use Rattle.aml_space.specs.Nodes.{content_of, part_by, known_by, IsShape, IsLinked, IsIndex, IsKept, AreAmong, paths_in}
+use Rattle.aml_space.specs.Nodes.{said_by, said_in}
 use Rattle.aml_children.proofs.Family.{same_itself, found_put, wider_family, family_put}
 use Rattle.aml_space.proofs.Index.{part_at}
 use Rattle.aml_children.proofs.Walks.{kid_range, node_range, walk_push}
 use Rattle.aml_children.proofs.Visiting.{links_on}
-use Rattle.aml_space.specs.Nodes.{AreAmong, paths_in, said_by, said_in}
-use Rattle.std.proofs.Common.{IfSome, drop}
 use Rattle.aml_space.proofs.Targets.{among_more, grown_paths, paths_long, said_grown}
-use Rattle.std.specs.Option.{option_map}
 use Rattle.aml_namespace.specs.declared.kinds.Kind.{Kind as KindOf}
 use Rattle.aml_namespace.specs.Known.{Said}
 

@@ -1,8 +1,7 @@
--- The levels of a scope. A level's parent is the one before it (`led_above`); only the root stands at the depth 0
--- (`root_depth`); further down the numbers are greater (`rises`).
-use Rattle.std.proofs.Common.{◌≡◌, ℕ, zero, suc, ◌+◌, ◌<◌, ◌≤◌, List, [], ◌∷◌, ◌++◌, length, take, drop, get_or}
-use Rattle.std.proofs.Common.{Option, Some, None, refl, sym, ap}
-use Rattle.std.proofs.Common.{◌∙◌, arith}
+-- The levels of a scope. A level's parent is the one before it (`led_above`); further down the numbers are greater
+-- (`rises`).
+use Rattle.std.proofs.Common.{◌≡◌, ℕ, ◌+◌, ◌<◌, ◌≤◌, List, [], ◌∷◌, ◌++◌, length, take, drop, get_or, Option}
+use Rattle.std.proofs.Common.{Some, None, refl, sym, ap, ◌∙◌, arith}
 use Rattle.std.specs.Option.{option_and_then}
 use Rattle.std.proofs.lemmas.Option.{same_Some}
 use Rattle.std.proofs.lemmas.List.{take_more, take-append-drop, take-take, drop_more}
@@ -63,20 +62,6 @@ module _ (ns : List Node) (is : IsIndex ns) (path : List Seg) where
       → walk (kids_of ns) 0 (take d path) ≡ Some (links_of ns j).0
   led_above d j within led =
       parent_led (take d path) (get_or path d none_seg) j (sym (ap (walk (kids_of ns) 0) (take_more path d none_seg within)) ∙ led)
-
-  -- each level but the first is below the root
-  pub deep_node : (d j : ℕ) → d < length path → walk (kids_of ns) 0 (take (d + 1) path) ≡ Some j → 0 < j
-  deep_node d j within led =
-      let there = before d j within led in
-      let range = kid_range is.shape there.0 (get_or path d none_seg) j there.2 in
-      omega (arith, range.0)
-
-  -- the root's level
-  pub root_depth : (d : ℕ) → d ≤ length path → walk (kids_of ns) 0 (take d path) ≡ Some 0 → d ≡ 0
-  root_depth zero within led = refl
-  root_depth (suc d) within led =
-      let deep = deep_node d 0 (omega (arith, within)) (ap (λ n. walk (kids_of ns) 0 (take n path)) {x = d + 1} {y = suc d} (omega arith) ∙ led) in
-      absurd (omega (arith, deep))
 
   -- a longer front leads to a greater number
   pub rises : (d e i j : ℕ) → d < e → e ≤ length path → walk (kids_of ns) 0 (take d path) ≡ Some i

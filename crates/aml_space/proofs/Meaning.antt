@@ -1,27 +1,25 @@
 -- What is known of a path, by its node (`kind_of_met`, `out_of_met`, `count_of_met`), and what the tests of a candidate
 -- say of its path (`meant_path`, `outside_path`).
-use Rattle.std.proofs.Common.{◌≡◌, ℕ, zero, suc, Bool, true, false, cond, List, [], ◌∷◌, ◌++◌, take}
-use Rattle.std.proofs.Common.{Option, Some, None, IfSome, is_some, refl}
-use Rattle.std.proofs.Common.{sym, ap, ◌∙◌, arith}
+use Rattle.std.proofs.Common.{◌≡◌, ℕ, zero, suc, Bool, true, false, cond, List, ◌++◌, take, Option, Some, None, IfSome}
+use Rattle.std.proofs.Common.{is_some, refl, sym, ap, ◌∙◌, arith}
 use Rattle.std.specs.Prelude.{◌||◌}
 use Rattle.std.specs.Option.{option_or, option_and_then, option_map}
 use Rattle.std.specs.FinMap as map
-use Rattle.std.specs.FinSet as set
 use Rattle.aml_names.specs.declared.segments.Seg.{Seg}
 use Rattle.aml_names.specs.Paths.{PathSet}
 use Rattle.aml_names.specs.Searching.{upward}
 use Rattle.aml_namespace.specs.Kinds.{Kind}
-use Rattle.aml_namespace.specs.declared.kinds.Kind.TheVariants.{Method, Alias}
 use Rattle.aml_space.specs.declared.nodes.Node.{Node}
 use Rattle.aml_space.specs.declared.scopes.Candidate.{Candidate}
 use Rattle.aml_namespace.specs.Predefined.{predefined}
-use Rattle.aml_namespace.specs.Namespace.{Namespace, kind_at, count_at, count_of_kind, arity_at, unknown_count, first_of}
-use Rattle.aml_namespace.specs.Namespace.{decides, is_outside}
+use Rattle.aml_namespace.specs.Namespace.{Namespace, kind_at, count_at, count_of_kind, decides, is_outside}
 use Rattle.aml_namespace.specs.Known.{namespace_in}
 use Rattle.aml_namespace.specs.Runs.{is_known}
 use Rattle.aml_children.specs.Numbered.{walk}
-use Rattle.aml_space.specs.Nodes.{kids_of, kinds_of, declared_of, outs_of, said_by, known_by, IsShape}
-use Rattle.aml_space.specs.Candidates.{path_at, IsCandidate}
+use Rattle.aml_space.specs.Nodes.{kids_of, kinds_of, declared_of, outs_of, givens_of, said_by, known_by, IsShape}
+use Rattle.aml_space.specs.Nodes.{content_of, aside_of}
+use Rattle.aml_space.specs.declared.walking.Aside.{Aside}
+use Rattle.aml_space.specs.Candidates.{path_at, aside_in, IsCandidate}
 use Rattle.aml_children.proofs.Basics.{cond_of}
 use Rattle.aml_space.proofs.Index.{part_at, kind_at_path}
 use Rattle.aml_namespace.proofs.Upward.{rest_of}
@@ -38,6 +36,11 @@ module _ (ns : List Node) (shape : IsShape ns) (p : List Seg) (node : Option ℕ
   pub out_of_met : option_and_then (outs_of ns) node ≡ map.get (known_by ns).outs p
   out_of_met = ap (option_and_then (outs_of ns)) met ∙ part_at (λ c. c.out) ns shape p
 
+  pub aside_of_met : (a : Aside) → option_and_then (λ i. aside_of a (content_of ns i)) node
+      ≡ aside_in a (namespace_in (known_by ns)) p
+  aside_of_met Aside.External = out_of_met
+  aside_of_met Aside.Given = ap (option_and_then (givens_of ns)) met ∙ part_at (λ c. c.given) ns shape p
+
   pub known_of_met : (standing : Option Kind) → standing ≡ predefined p →
       (is_some (option_or (option_and_then (kinds_of ns) node) standing) || is_some (option_and_then (outs_of ns) node))
       ≡ is_known (namespace_in (known_by ns)) p
@@ -47,27 +50,6 @@ module _ (ns : List Node) (shape : IsShape ns) (p : List Seg) (node : Option ℕ
       count_of_kind (namespace_in (known_by ns)) (option_or (option_and_then (kinds_of ns) node) standing) (option_and_then (outs_of ns) node)
       ≡ count_at (namespace_in (known_by ns)) p
   count_of_met standing is = λ i. count_of_kind (namespace_in (known_by ns)) (kind_of_met standing is i) (out_of_met i)
-
--- a kind has a count
-kind_counts : (n : Namespace) (k : Kind) (o other : Option ℕ)
-    → option_or (count_of_kind n (Some k) o) other ≡ count_of_kind n (Some k) o
-kind_counts n (Method args) o other = refl
-kind_counts n (Alias is_open target) o other = refl
-kind_counts n _ o other = refl
-
--- a name that leads to one path
-pub placed : (n : Namespace) (unknown_zero : Bool) (locals : PathSet) (p : List Seg) →
-    arity_at n unknown_zero locals (p ∷ []) (first_of n locals (p ∷ []))
-    ≡ cond (set.contains locals p) (Some 0) (option_or (count_at n p) (unknown_count n unknown_zero (p ∷ [])))
-placed n u locals p = by (set.contains locals p) refl (kind_at n p) refl (n.outs p) refl
-  where
-    by : (a : Bool) → set.contains locals p ≡ a → (k : Option Kind) → kind_at n p ≡ k → (o : Option ℕ) → n.outs p ≡ o →
-        arity_at n u locals (p ∷ []) (option_or (cond (a || is_some k) (Some p) None) (cond (is_some o) (Some p) None))
-        ≡ cond a (Some 0) (option_or (count_of_kind n k o) (unknown_count n u (p ∷ [])))
-    by true a k e o f = ap (λ b. cond b (Some 0) (count_at n p)) a
-    by false a (Some k) e o f = ap (λ b. cond b (Some 0) (count_at n p)) a ∙ (λ i. count_of_kind n (e i) (f i)) ∙ sym (kind_counts n k o _)
-    by false a None e (Some x) f = ap (λ b. cond b (Some 0) (count_at n p)) a ∙ (λ i. count_of_kind n (e i) (f i))
-    by false a None e None f = refl
 
 -- the tests of a candidate that is no local are those of its path
 module _ (ns : List Node) (locals : PathSet) (scope segment : List Seg) (shape : IsShape ns) (c : Candidate) (is : IsCandidate ns locals scope segment c)

@@ -1,5 +1,5 @@
--- How far a path leads: to a node (`whole_led`), or nowhere (`none_led`). The path of a number leads to its node
--- (`numbered_led`), and the root's to the first (`root_read`).
+-- How far a path leads: where it leads nowhere (`none_led`). The path of a number leads to its node (`numbered_led`), and
+-- the root's to the first (`root_read`).
 use Rattle.std.proofs.Common.{◌≡◌, ℕ, ◌<◌, List, [], ◌∷◌, ◌++◌, length, Some, None, refl, sym, ap, ◌∙◌}
 use Rattle.std.proofs.Common.{false, take, drop, get_or, arith, ◌+◌, ◌-◌, ◌^◌, ◌≤◌, subst, append_assoc}
 use Rattle.std.proofs.lemmas.Bool.{false≢true}
@@ -31,10 +31,6 @@ module _ (ns : List Node) (is : IsIndex ns) where
   pub behind_led : (i : ℕ) (q : List Seg) → i < length ns → walk (kids_of ns) 0 (path_of ns i ++ q) ≡ walk (kids_of ns) i q
   behind_led i q within = walk_append (kids_of ns) 0 (path_of ns i) q
       ∙ ap (option_and_then (λ j. walk (kids_of ns) j q)) (is.there i within)
-
-  -- where nothing is left, the path leads to the node
-  pub whole_led : (r : Reach) → IsReach ns r → r.left.now ≡ [] → walk (kids_of ns) 0 (path_by ns r) ≡ Some r.node
-  whole_led r reach none = behind_led r.node r.left.now reach.within ∙ ap (walk (kids_of ns) r.node) none
 
   -- and else nowhere
   pub none_led : (r : Reach) → IsReach ns r → (s : Seg) (q : List Seg) → r.left.now ≡ s ∷ q

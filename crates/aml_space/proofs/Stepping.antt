@@ -1,8 +1,7 @@
 -- The ways up from nodes. Those of one node more come from its parent's (`steps_more`, `edged_more`), and they stay right
 -- where paths lead where they led (`steps_kept`, `ways_kept`).
-use Rattle.std.proofs.Common.{◌≡◌, ℕ, zero, suc, ◌+◌, ◌<◌, ◌≤◌, true, List, [], ◌∷◌, ◌++◌, length, take, get_or}
-use Rattle.std.proofs.Common.{Some, ◌⊎◌, inl, inr, sym}
-use Rattle.std.proofs.Common.{ap, subst, ◌∙◌, arith, length-append}
+use Rattle.std.proofs.Common.{◌≡◌, ℕ, zero, suc, ◌+◌, ◌<◌, ◌≤◌, true, List, [], ◌∷◌, ◌++◌, length, take, get_or, Some}
+use Rattle.std.proofs.Common.{◌⊎◌, inl, inr, sym, ap, subst, ◌∙◌, arith, length-append}
 use Rattle.std.proofs.lemmas.Bool.{cases_lt}
 use Rattle.std.proofs.lemmas.List.{get_or_append_left, get_or_push, get_or_past}
 use Rattle.std.proofs.lemmas.Option.{same_Some}
@@ -47,11 +46,6 @@ module _ (ns : List Node) (is : IsIndex ns) (steps : List ℕ) (are : AreSteps n
       | inr last ↦ subst (IsOver ns path d) (sym last.1) (here path d long (led ∙ ap (λ (n : ℕ). Some n) last.0))
     ];
   }
-
-  -- the root
-  pub steps_root : at ≡ 0 → at < length ns → new ≡ 0 → AreSteps ns more
-  steps_root first within root = all (omega (arith, root)) within
-      (λ path d long led. (d, omega arith, led ∙ ap (λ (i : ℕ). Some i) {x = at} {y = new} (omega (arith, first, root))))
 
   -- another one, from what is kept of its parent
   pub steps_more : (up middle : ℕ) → 0 < at → at < length ns → up ≡ (links_of ns at).0 → middle ≡ get_or steps up up

@@ -1,7 +1,6 @@
 -- A stepping stone of the proofs: the paths that a name of one segment may mean in a scope, by their nodes.
-use Rattle.std.specs.Prelude.{◌≡◌, ℕ, ◌<◌, ◌≤◌, false, true, List, [], ◌∷◌, ◌++◌, length}
-use Rattle.std.specs.Prelude.{take, get_or}
-use Rattle.std.specs.Prelude.{Some, None}
+use Rattle.std.specs.Prelude.{◌≡◌, ℕ, ◌<◌, ◌≤◌, false, true, List, [], ◌∷◌, ◌++◌, length, take, get_or, Option, Some}
+use Rattle.std.specs.Prelude.{None}
 use Rattle.std.specs.FinSet as set
 use Rattle.aml_names.specs.declared.segments.Seg.{Seg}
 use Rattle.aml_names.specs.Paths.{PathSet}
@@ -9,6 +8,7 @@ use Rattle.aml_space.specs.declared.nodes.Node.{Node}
 use Rattle.aml_space.specs.declared.scopes.Scope.{Scope}
 use Rattle.aml_space.specs.declared.scopes.Level.{Level}
 use Rattle.aml_space.specs.declared.scopes.Candidate.{Candidate}
+use Rattle.aml_space.specs.declared.walking.Aside.{Aside}
 use Rattle.aml_space.specs.declared.edges.Edges.{Edges}
 use Rattle.aml_space.specs.declared.ways.Ways.{Ways}
 use Rattle.aml_space.specs.Edges.{has_edge}
@@ -68,6 +68,11 @@ pub record IsScope (s : Scope) : Type 0 where
 abbrev pub AreAbove : Scope → ℕ → ℕ → ℕ → Type 0
 AreAbove s floor upper lower = (e j : ℕ) → upper < e → e ≤ lower →
     walk (kids_of s.nodes.now) 0 (take e (path_in s)) ≡ Some j → floor < j
+
+-- a count that a namespace has of paths beside their declarations
+abbrev pub aside_in : Aside → Namespace → List Seg → Option ℕ
+aside_in Aside.External n = n.outs
+aside_in Aside.Given n = n.givens
 
 -- nothing is known of a path
 pub record IsUnknown (n : Namespace) (p : List Seg) : Type 0 where

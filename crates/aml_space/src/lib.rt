@@ -21,8 +21,8 @@ mod walking;
 mod ways;
 
 pub use aml_namespace::{
-    Kind, PathId, SpaceRow, every_run_agrees, every_run_leads_there, quick_way_holds,
-    rows_are_declared, runs_differ, stays_as_it_is, sure_stays,
+    Kind, PathId, SpaceRow, every_run_agrees, every_run_leads_there, rows_are_declared,
+    runs_differ, stays_as_it_is, sure_stays,
 };
 pub use below::Below;
 pub use bodies::{BodyNames, BodyScope};

@@ -1,34 +1,28 @@
 //! Scopes in the index, and what a name of one segment means in them.
-ghost use Rattle.std.specs.Prelude.{◌&&◌, not, [], get_or};
+ghost use Rattle.std.specs.Prelude.{◌&&◌, not, [], get_or, ◌≡◌, true, false, ◌+◌, ◌-◌, ◌<◌, ◌≤◌, ◌++◌, cond, length};
+ghost use Rattle.std.specs.Prelude.{take, Some, None, is_some, IfOk, IfSome, List};
 ghost use Rattle.std.specs.List.{find};
-ghost use Rattle.std.specs.Prelude.{◌≡◌, true, false, ◌+◌, ◌-◌, ◌<◌, ◌≤◌, ◌++◌, cond, length, take, Some, None};
-ghost use Rattle.std.specs.Prelude.{is_some};
-ghost use Rattle.std.specs.Prelude.{IfOk, IfSome};
-ghost use Rattle.std.specs.Bool.{OnFalse, OnTrue};
 ghost use Rattle.std.specs.Option.{option_or, option_and_then, option_map};
-ghost use Rattle.std.specs.FinSet as set;
 ghost use Rattle.aml_names.specs.declared.segments.Seg.{Seg as AnySeg};
 ghost use Rattle.aml_names.specs.Names.{placed};
 ghost use Rattle.aml_names.specs.Searching.{upward};
 ghost use Rattle.aml_namespace.specs.Predefined.{predefined};
 ghost use Rattle.aml_namespace.specs.Kinds.{kind_in};
-ghost use Rattle.std.specs.Prelude.{List};
-ghost use Rattle.aml_namespace.specs.Namespace.{first_of, first_given, count_at, kind_at as kind_of_path};
+ghost use Rattle.aml_namespace.specs.Namespace.{first_of, first_count, kind_at as kind_of_path};
 ghost use Rattle.aml_children.specs.Numbered.{walk};
-ghost use Rattle.aml_space.specs.Nodes.{path_of, path_by, kids_of, outs_of, known_by, IsIndex, IsReach};
-ghost use Rattle.aml_namespace.specs.Known.{namespace_in};
+ghost use Rattle.aml_space.specs.Nodes.{path_of, path_by, kids_of, outs_of, IsIndex, IsReach};
 ghost use Rattle.aml_namespace.specs.Runs.{counts_met as met, counts_of, is_known};
 ghost use Rattle.aml_namespace.specs.Tallies.{counts_in};
-ghost use Rattle.aml_space.specs.Candidates.{path_in, path_at, names_of, outlook_at, AreAbove, AreWays};
-ghost use Rattle.aml_namespace.specs.Searching.{local_from, agreed_among, above};
+ghost use Rattle.aml_space.specs.Candidates.{path_in, path_at, names_of, outlook_at, aside_in, AreAbove, AreWays};
 ghost use Rattle.aml_space.specs.Candidates.{IsLevel, IsScope, IsNextWith, IsCandidate};
+ghost use Rattle.aml_namespace.specs.Searching.{local_from, agreed_among, above};
 
-use crate::counting::{count_met, counts_met, kind_met, known_met, sure_met};
+use crate::counting::{counts_met, kind_met, known_met, sure_met};
 use crate::growing::Reach;
 use crate::nodes::Node;
 use crate::parents::{depth_at, link};
 use crate::seen::{NoLocals, Seen};
-use crate::walking::{child, given_at, node_from, out_at};
+use crate::walking::{Aside, aside_at, child, node_from, out_at};
 use crate::ways::{Ways, step_from};
 use aml_names::{Name, NoMemory, Path, Seg};
 use aml_namespace::{Counts, Kind, PathId, predefined_kind};
@@ -597,23 +591,6 @@ impl<'a> Scope<'a> {
         }
     }
 
-    /// How many arguments a candidate takes: none where it is one of the locals.
-    pub(crate) fn count(&self, segment: &[Seg], here: Candidate) -> Option<u8>
-        requires scope { IsScope self.now }
-        requires one { length segment.now ≡ 1 }
-        requires within { here.depth ≤ length (path_in self.now) }
-        requires node { here.local ≡ false → here.node
-            ≡ walk (kids_of self.now.nodes.now) 0 (take here.depth (path_in self.now) ++ segment.now) }
-        ensures { result
-            ≡ cond here.local (Some 0)
-            (count_at (names_of self.now) (take here.depth (path_in self.now) ++ segment.now)) }
-    {
-        if here.local {
-            return Some(0);
-        }
-        count_met(self.nodes, here.node, self.standing(segment, here.depth))
-    }
-
     /// The counts of all that a segment may mean: of each candidate up to and with the first that is one of the locals,
     /// whose count is 0, or has a kind in every run. `first`: the first level that has a child by the segment.
     pub(crate) fn counts<L: Seen>(
@@ -677,19 +654,19 @@ impl<'a> Scope<'a> {
         sure_met(self.nodes, here.node, self.standing(segment, here.depth))
     }
 
-    /// The count that the user gives to the first candidate of a segment that has one. `first`: the first level that
-    /// has a child by the segment.
-    pub(crate) fn given(&self, first: Level, segment: &[Seg]) -> Option<u8>
+    /// The count that stands beside the declarations of the first candidate of a segment that has one. `first`: the first
+    /// level that has a child by the segment.
+    pub(crate) fn first_count(&self, aside: Aside, first: Level, segment: &[Seg]) -> Option<u8>
         requires scope { IsScope self.now }
         requires first { IsNextWith self.now segment.now (length (path_in self.now)) first }
         requires one { length segment.now ≡ 1 }
-        ensures { result ≡ first_given (names_of self.now)
+        ensures { result ≡ first_count (aside_in aside (names_of self.now))
             (upward (length (path_in self.now)) (path_in self.now) segment.now) }
     {
         let mut level = first;
         'levels: loop {
             let node = self.node_at(segment, level);
-            if let Some(count) = given_at(self.nodes, node) {
+            if let Some(count) = aside_at(self.nodes, node, aside) {
                 return Some(count);
             }
             if level.depth == 0 {

@@ -8,16 +8,13 @@ ghost use Rattle.aml_namespace.specs.Namespace.{Entry, Body, declares, external 
 ghost use Rattle.aml_namespace.specs.Namespace.{kind_at, count_at, namespace_of, declared_at, target_by};
 ghost use Rattle.aml_namespace.specs.Runs.{outlook_of, sure_at, scope_in, open_in};
 ghost use Rattle.aml_space.specs.Nodes.{known_by, paths_in};
-ghost use Rattle.aml_namespace.specs.Known.{Grows, StandsAt, path_at, of_paths};
-ghost use Rattle.aml_names.specs.declared.segments.Seg.{Seg as AnySeg};
+ghost use Rattle.aml_namespace.specs.Known.{Grows, StandsAt, path_at, of_paths, StandsFor, nothing_known, once};
+ghost use Rattle.aml_namespace.specs.Known.{with_declaration, with_declared, with_again, with_external, with_given};
+ghost use Rattle.aml_namespace.specs.Known.{is_declared as declared_yet, namespace_in, outlook_in, row_of, AreRows};
 ghost use Rattle.aml_space.specs.Below.{path_below, path_behind};
 ghost use Rattle.aml_names.specs.Names.{placed};
 ghost use Rattle.aml_namespace.specs.Kinds.{kind_in, IsAmong};
 ghost use Rattle.aml_space.specs.Candidates.{path_in, names_of, outlook_at, IsScope};
-ghost use Rattle.aml_namespace.specs.Known.{StandsFor, nothing_known, once, with_declaration, with_declared};
-ghost use Rattle.aml_namespace.specs.Known.{with_again};
-ghost use Rattle.aml_namespace.specs.Known.{with_external, with_given};
-ghost use Rattle.aml_namespace.specs.Known.{is_declared as declared_yet, namespace_in, outlook_in, row_of, AreRows};
 
 use crate::below::Below;
 use crate::counting::{count_of, open_met, scope_met, sure_met};

@@ -1,10 +1,7 @@
 //! The ways up from nodes: which nodes have a child by a segment, and steps of all lengths.
-ghost use Rattle.std.specs.Prelude.{◌≡◌, ◌+◌, ◌<◌, ◌≤◌, ◌^◌, ◌++◌, ◌∷◌, [], List, length, get_or, take};
-ghost use Rattle.std.specs.Prelude.{OnOk, IfSome, Some};
+ghost use Rattle.std.specs.Prelude.{◌≡◌, ◌+◌, ◌<◌, ◌++◌, ◌∷◌, [], List, length, get_or, OnOk, Some};
 ghost use Rattle.aml_space.specs.declared.nodes.Node.{Node as AnyNode};
-ghost use Rattle.aml_names.specs.declared.segments.Seg.{Seg as AnySeg};
-ghost use Rattle.aml_children.specs.Numbered.{walk};
-ghost use Rattle.aml_space.specs.Nodes.{kids_of, IsIndex};
+ghost use Rattle.aml_space.specs.Nodes.{IsIndex};
 ghost use Rattle.aml_space.specs.Candidates.{AreEdged, AreSteps, AreWays};
 
 use crate::edges::Edges;

@@ -1,5 +1,5 @@
-use Rattle.std.proofs.Common.{None, cond, map, sym, ap, ◌∙◌}
-use Rattle.aml_space.specs.Nodes.{known_by}
+use Rattle.std.proofs.Common.{None, cond, map, sym, ap, ◌∙◌, Some}
+use Rattle.aml_space.specs.Nodes.{known_by, path_of, paths_in}
 use Rattle.aml_namespace.specs.Known.{kinds_by, outlook_in}
 use Rattle.aml_namespace.specs.Namespace.{target_count}
 use Rattle.aml_namespace.specs.declared.tallies.Counts.TheVariants.{One}
@@ -9,11 +9,8 @@ use Rattle.aml_space.proofs.Meaning.{declared_there, out_of_met}
 use Rattle.aml_space.proofs.counting.counts_of_target.Goals as goal
 use Rattle.aml_namespace.specs.Runs.{target_counts}
 use Rattle.aml_namespace.proofs.Aimed.{own_aimed}
-use Rattle.aml_space.specs.Nodes.{path_of}
-use Rattle.std.proofs.Common.{Some}
 use Rattle.std.specs.Option.{option_copied}
 use Rattle.aml_namespace.specs.Kinds.{target_in}
-use Rattle.aml_space.specs.Nodes.{paths_in}
 use Rattle.aml_namespace.specs.Predefined.{predefined}
 
 pub returns : goal.returns

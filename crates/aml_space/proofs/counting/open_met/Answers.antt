@@ -1,16 +1,13 @@
-use Rattle.std.proofs.Common.{rules, ◌≡◌, ◌∷◌, is_some, length, sym, ap, ◌∙◌}
+use Rattle.std.proofs.Common.{rules, ◌≡◌, ◌∷◌, is_some, length, sym, ap, ◌∙◌, Some}
 use Rattle.std.specs.Prelude.{◌||◌, ◌&&◌, not, nat_lt}
 use Rattle.std.specs.List.{list_any}
-use Rattle.std.specs.Option.{option_copied}
+use Rattle.std.specs.Option.{option_copied, option_map}
 use Rattle.aml_namespace.specs.Known.{kinds_by}
 use Rattle.aml_namespace.specs.Runs.{is_alias, is_open_alias, open_among}
 use Rattle.aml_namespace.proofs.Said.{open_said}
 use Rattle.aml_space.proofs.counting.open_met.Goals as goal
-use Rattle.std.specs.Option.{option_map}
-use Rattle.std.proofs.Common.{Some}
-use Rattle.aml_namespace.specs.Kinds.{target_in}
+use Rattle.aml_namespace.specs.Kinds.{target_in, retarget}
 use Rattle.aml_space.specs.Nodes.{paths_in, said_in}
-use Rattle.aml_namespace.specs.Kinds.{retarget}
 use Rattle.aml_namespace.proofs.Aimed.{kinds_aimed, open_aimed}
 
 pub returns-in-Some : goal.returns-in-Some

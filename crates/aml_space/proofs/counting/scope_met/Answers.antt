@@ -1,4 +1,4 @@
-use Rattle.std.proofs.Common.{◌≡◌, Some, is_some, sym, ap, ◌∙◌}
+use Rattle.std.proofs.Common.{◌≡◌, Some, is_some, sym, ap, ◌∙◌, Bool}
 use Rattle.std.specs.Prelude.{◌&&◌, ◌||◌, option_to_list}
 use Rattle.std.specs.List.{list_all}
 use Rattle.std.specs.Option.{option_copied, option_map, option_and_then}
@@ -11,7 +11,6 @@ use Rattle.aml_namespace.proofs.Said.{scope_said}
 use Rattle.aml_space.specs.Nodes.{declared_of, paths_in, said_in}
 use Rattle.aml_space.proofs.counting.scope_met.Goals as goal
 use Rattle.aml_space.proofs.counting.scope_met.Goals.{After-tally}
-use Rattle.std.proofs.Common.{Bool}
 
 -- what is told of kinds by number, of kinds by path
 told : (c : After-tally) → (b : Bool)

@@ -1,4 +1,4 @@
-use Rattle.std.proofs.Common.{◌≡◌, length, drop, sym, subst, ap, ◌∙◌}
+use Rattle.std.proofs.Common.{◌≡◌, length, drop, sym, subst, ap, ◌∙◌, arith, ◌≤◌}
 use Rattle.aml_namespace.specs.Kinds.{kind_in}
 use Rattle.aml_namespace.specs.Known.{once, with_declaration}
 use Rattle.aml_space.specs.Nodes.{known_by, path_by, paths_in, said_in, HasDeclared, IsIndex}
@@ -7,7 +7,6 @@ use Rattle.aml_space.proofs.Keeping.{content_kept, kept_on, more_paths}
 use Rattle.aml_space.proofs.Targets.{among_more, paths_long, said_grown}
 use Rattle.aml_space.proofs.growing.declare_first.Goals as goal
 use Rattle.aml_space.proofs.growing.declare_first.Goals.{After-set_declared}
-use Rattle.std.proofs.Common.{arith, ◌≤◌}
 
 put_here : (c : After-set_declared)
     → HasDeclared c.extend.new.nodes.items c.set_declared.new.nodes.items c.in_ok-at.at c.in_ok-said.said

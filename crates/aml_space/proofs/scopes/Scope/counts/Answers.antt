@@ -1,6 +1,5 @@
 use Rattle.std.proofs.Common.{◌≡◌, ℕ, ◌-◌, ◌<◌, ◌≤◌, List, [], ◌∷◌, ◌++◌, Option, take, get_or, length, false, refl}
-use Rattle.std.proofs.Common.{sym, ap, ◌∙◌}
-use Rattle.std.proofs.Common.{subst, arith, IfSome}
+use Rattle.std.proofs.Common.{sym, ap, ◌∙◌, subst, arith, IfSome}
 use Rattle.std.specs.Prelude.{is_some}
 use Rattle.std.specs.FinSet as set
 use Rattle.aml_names.specs.declared.segments.Seg.{Seg}
@@ -13,8 +12,7 @@ use Rattle.aml_namespace.specs.Tallies.{joined, counts_in}
 use Rattle.aml_space.specs.Candidates.{path_in, names_of, outlook_at, IsNextOf}
 use Rattle.aml_space.proofs.Asked.{none_known_below, of_sooner}
 use Rattle.aml_namespace.proofs.Nearest.{near_within, passed_by, local_there, other_there, no_local, some_local}
-use Rattle.aml_namespace.proofs.Nearest.{less_above}
-use Rattle.aml_namespace.proofs.Nearest.{less_here}
+use Rattle.aml_namespace.proofs.Nearest.{less_above, less_here}
 use Rattle.aml_namespace.proofs.Meeting.{first_in, at_local, at_sure, at_root, on_from, skip_met}
 use Rattle.aml_space.proofs.scopes.Scope.counts.Goals as goal
 use Rattle.aml_space.proofs.scopes.Scope.counts.Given.{Over}

@@ -1,5 +1,4 @@
-use Rattle.std.proofs.Common.{◌++◌, Some, None, take, subst, IfSome, sym, ap, ◌∙◌}
-use Rattle.std.proofs.Common.{cond}
+use Rattle.std.proofs.Common.{◌++◌, Some, None, take, subst, IfSome, sym, ap, ◌∙◌, cond}
 use Rattle.std.specs.Option.{option_map}
 use Rattle.std.specs.FinSet as set
 use Rattle.aml_names.specs.Paths.{path_cmp}

@@ -1,5 +1,4 @@
-use Rattle.std.proofs.Common.{rules, take, ◌++◌, arith}
-use Rattle.std.proofs.Common.{◌≡◌, ◌-◌, None}
+use Rattle.std.proofs.Common.{rules, take, ◌++◌, arith, ◌≡◌, ◌-◌, None}
 use Rattle.aml_space.specs.Candidates.{path_in, names_of}
 use Rattle.aml_space.proofs.Asked.{unknown_at, of_up, of_through}
 use Rattle.aml_space.proofs.scopes.Scope.next_with.Goals as goal

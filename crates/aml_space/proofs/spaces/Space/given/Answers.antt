@@ -2,8 +2,7 @@ use Rattle.std.proofs.Common.{◌≡◌, length, Some, sym, subst, ap, ◌∙◌
 use Rattle.std.specs.FinMap as map
 use Rattle.aml_namespace.specs.Known.{Known, Grows, with_given}
 use Rattle.aml_children.specs.Numbered.{walk}
-use Rattle.aml_space.specs.Nodes.{kids_of, known_by, path_by, IsIndex, IsKept}
-use Rattle.aml_space.specs.Nodes.{known_in}
+use Rattle.aml_space.specs.Nodes.{kids_of, known_by, path_by, IsIndex, IsKept, known_in}
 use Rattle.aml_space.proofs.Keeping.{kept_on, known_again, still_space, content_kept}
 use Rattle.aml_namespace.proofs.Stands.{stands_grown, stands_given}
 use Rattle.aml_space.proofs.Index.{put_given}

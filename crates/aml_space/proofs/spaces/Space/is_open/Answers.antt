@@ -1,4 +1,4 @@
-use Rattle.std.proofs.Common.{◌≡◌, false, refl, sym, ap, subst, ◌∙◌, IfSome}
+use Rattle.std.proofs.Common.{◌≡◌, false, refl, sym, ap, subst, ◌∙◌, IfSome, ℕ, None, Option, Some, []}
 use Rattle.aml_namespace.specs.Known.{kinds_by, outlook_in}
 use Rattle.aml_namespace.specs.Runs.{Outlook, is_alias, open_among, open_in}
 use Rattle.aml_space.proofs.Index.{part_met}
@@ -11,7 +11,6 @@ use Rattle.aml_space.proofs.Reaching.{seen_below}
 use Rattle.aml_space.proofs.spaces.Space.is_open.Goals as goal
 use Rattle.aml_namespace.specs.Kinds.{Kind, kind_in, target_in}
 use Rattle.std.specs.Option.{option_map}
-use Rattle.std.proofs.Common.{ℕ, None, Option, Some, []}
 use Rattle.aml_space.specs.Nodes.{paths_in, said_by}
 use Rattle.aml_namespace.proofs.Aimed.{same_alias}
 

@@ -1,16 +1,13 @@
-use Rattle.std.proofs.Common.{length, sym, ap, subst, ◌∙◌}
+use Rattle.std.proofs.Common.{length, sym, ap, subst, ◌∙◌, ◌≡◌, Some}
 use Rattle.std.specs.FinMap as map
 use Rattle.aml_namespace.specs.Known.{Known, Grows}
 use Rattle.std.specs.Prelude.{slice_get}
-use Rattle.aml_space.specs.Nodes.{paths_in}
-use Rattle.aml_space.specs.Nodes.{known_in}
+use Rattle.aml_space.specs.Nodes.{paths_in, known_in, kids_of}
 use Rattle.aml_space.specs.Spaces.{IsSpace}
 use Rattle.aml_space.proofs.Keeping.{still_space, known_again, numbered}
 use Rattle.aml_space.specs.Below.{path_below}
 use Rattle.aml_space.proofs.Reaching.{reach_path}
-use Rattle.std.proofs.Common.{◌≡◌, Some}
 use Rattle.aml_children.specs.Numbered.{walk}
-use Rattle.aml_space.specs.Nodes.{kids_of}
 use Rattle.aml_space.proofs.spaces.Space.number.Goals as goal
 use Rattle.aml_space.proofs.spaces.Space.number.Goals.{After-extend}
 

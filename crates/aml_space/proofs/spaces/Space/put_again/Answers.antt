@@ -1,8 +1,6 @@
-use Rattle.std.proofs.Common.{◌≡◌, false, ◌+◌, length, None}
-use Rattle.std.proofs.Common.{sym, subst, ap, ◌∙◌, arith}
+use Rattle.std.proofs.Common.{◌≡◌, false, ◌+◌, length, None, sym, subst, ap, ◌∙◌, arith, Some}
 use Rattle.std.specs.FinMap as map
-use Rattle.aml_space.specs.Nodes.{known_by, paths_in}
-use Rattle.aml_space.specs.Nodes.{known_in}
+use Rattle.aml_space.specs.Nodes.{known_by, paths_in, known_in, kids_of, path_of, path_by}
 use Rattle.aml_namespace.specs.Known.{Known, Grows, once, with_declaration, with_again}
 use Rattle.aml_namespace.proofs.Numbers.{grows_not}
 use Rattle.aml_namespace.proofs.Stands.{stands_grown, stands_declared, again_first, none_from_test}
@@ -10,15 +8,12 @@ use Rattle.aml_space.proofs.Index.{known_taken, one_declared}
 use Rattle.aml_space.proofs.Keeping.{still_space, known_again, on_err, ok_then, err_then}
 use Rattle.aml_space.specs.Below.{path_below}
 use Rattle.aml_space.proofs.Reaching.{reach_path}
-use Rattle.std.proofs.Common.{Some}
 use Rattle.aml_children.specs.Numbered.{walk}
-use Rattle.aml_space.specs.Nodes.{kids_of, path_of, path_by}
 use Rattle.aml_space.proofs.Named.{path_led}
 use Rattle.aml_space.proofs.spaces.Space.put_again.Goals as goal
 use Rattle.aml_space.proofs.spaces.Space.put_again.Goals.{In_ok-declare_first, After-declare_again, After-is_taken}
-use Rattle.aml_namespace.specs.Kinds.{kind_in}
+use Rattle.aml_namespace.specs.Kinds.{kind_in, IsAmong}
 use Rattle.aml_space.proofs.Targets.{paths_long}
-use Rattle.aml_namespace.specs.Kinds.{IsAmong}
 
 not_declared : (c : After-is_taken) → c.is_taken.result ≡ false
     → map.get c.args.self.now.declarations (path_below c.args.self.now.paths c.args.path.now) ≡ None

@@ -3,8 +3,7 @@ use Rattle.std.proofs.Common.{◌≡◌, ◌+◌, length, List, ◌++◌, ◌∷
 use Rattle.std.proofs.Common.{ap, ◌∙◌, arith}
 use Rattle.std.specs.FinMap as map
 use Rattle.aml_namespace.specs.Namespace.{Entry, declares, declared_at}
-use Rattle.aml_space.specs.Nodes.{known_by}
-use Rattle.aml_space.specs.Nodes.{known_in}
+use Rattle.aml_space.specs.Nodes.{known_by, known_in, path_by}
 use Rattle.aml_namespace.specs.Known.{Known, StandsFor, Grows, once, with_declaration, is_declared}
 use Rattle.aml_namespace.proofs.Numbers.{grows_not}
 use Rattle.aml_namespace.proofs.Stands.{stands_grown, stands_declared, again_first, none_from_test, declared_listed}
@@ -12,12 +11,10 @@ use Rattle.aml_space.proofs.Index.{known_taken, one_declared}
 use Rattle.aml_space.proofs.Keeping.{still_space, known_again, on_err}
 use Rattle.aml_space.specs.Below.{path_below}
 use Rattle.aml_space.proofs.Reaching.{reach_path}
-use Rattle.aml_space.specs.Nodes.{path_by}
 use Rattle.aml_space.proofs.spaces.Space.put_once.Goals as goal
 use Rattle.aml_space.proofs.spaces.Space.put_once.Goals.{After-is_taken, After-declare_first, In_ok-declare_first}
-use Rattle.aml_namespace.specs.Kinds.{kind_in}
+use Rattle.aml_namespace.specs.Kinds.{kind_in, IsAmong}
 use Rattle.aml_space.proofs.Targets.{paths_long}
-use Rattle.aml_namespace.specs.Kinds.{IsAmong}
 
 taken : (c : After-is_taken) → c.is_taken.result ≡ is_declared c.args.self.now (path_below c.args.self.now.paths c.args.path.now)
 taken c = known_taken _ _ _ _ _ c.args.self.now c.is_taken.ensures.taken c.as_slice-2.ensures.value
