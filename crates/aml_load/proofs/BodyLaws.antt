@@ -1,7 +1,6 @@
 -- The body of a method, read by what the names of its body are read by.
-use Rattle.std.proofs.Common.{ap, ◌≡◌, ◌≢◌, ℕ, zero, suc, ◌≤◌, Bool, List, [], ◌∷◌, length, drop, Option, Some, Result, Ok}
-use Rattle.std.proofs.Common.{Err, refl, subst, ◌⊎◌, inl, inr}
-use Rattle.std.proofs.Common.{arith, slice_index_or}
+use Rattle.std.proofs.Common.{ap, ◌≡◌, ◌≢◌, ℕ, zero, suc, ◌≤◌, Bool, List, [], ◌∷◌, length, drop, Option, Some, Result}
+use Rattle.std.proofs.Common.{Ok, Err, refl, subst, ◌⊎◌, inl, inr, arith, slice_index_or}
 use Rattle.std.proofs.lemmas.List.{length-take, length-drop}
 use Rattle.aml_names.specs.declared.names.Name.{Name}
 use Rattle.aml_names.specs.Paths.{PathSet}

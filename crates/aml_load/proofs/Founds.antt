@@ -1,7 +1,6 @@
 -- The terms that a walk finds, step by step.
-use Rattle.std.proofs.Common.{◌≡◌, ℕ, suc, true, false, List, [], ◌∷◌, ◌++◌, Option, Some, None, Result, Ok, Err, sym, ap}
-use Rattle.std.proofs.Common.{append_assoc, refl, ◌∙◌}
-use Rattle.std.proofs.Common.{Bool, ◌⊎◌, inl, inr}
+use Rattle.std.proofs.Common.{◌≡◌, ℕ, suc, true, false, List, [], ◌∷◌, ◌++◌, Option, Some, None, Result, Ok, Err, sym}
+use Rattle.std.proofs.Common.{ap, append_assoc, refl, ◌∙◌, Bool, ◌⊎◌, inl, inr}
 use Rattle.std.specs.Prelude.{IfErr}
 use Rattle.aml_code.specs.Tree.{Tree, nothing, named, op, Trees, tree_more}
 use Rattle.aml_code.specs.View.{node_view}
@@ -14,12 +13,11 @@ use Rattle.aml_load.specs.Declaring.{◌>>=◌, Listed, first_listed}
 unfoldable use Rattle.aml_load.specs.Front.{head_enters, enters_by}
 unfoldable use Rattle.aml_load.specs.Hearing.{enter, enter_as}
 use Rattle.aml_load.specs.Hearing.{call_at}
-use Rattle.aml_load.specs.Loading.{Where}
+use Rattle.aml_load.specs.Loading.{Where, LoadsTo}
 use Rattle.aml_load.specs.Standing.{◌>>>◌, Standing, stands}
 use Rattle.aml_load.specs.Standings.{standings_view, AreStanding, Found, declare_tables, set_declares, enters_at}
 use Rattle.aml_load.specs.Standings.{walk, walk_within, walk_all, met, met_within, met_all}
 use Rattle.aml_load.specs.Standings as standings
-use Rattle.aml_load.specs.Loading.{LoadsTo}
 use Rattle.aml_load.specs.Tables.{Fails, ReadTables, ListsTo}
 use Rattle.aml_load.specs.Walking.{KeepsPaths, Stays}
 use Rattle.aml_load.proofs.Inside.{still_among, still_path}

@@ -1,33 +1,17 @@
--- Names of one scope stand in one group: names more (`names_joined`), a group more (`group_more`, `known_more`); and groups
--- keep their scopes where numbers stand for the same paths (`still_known`, `same_uses`).
-use Rattle.std.proofs.lemmas.List.{flat_map_more, map-append}
+-- Names of one scope stand in one group: a group more (`group_more`); and groups keep their scopes where numbers stand for
+-- the same paths (`still_known`, `same_uses`).
+use Rattle.std.proofs.lemmas.List.{flat_map_more}
 use Rattle.std.proofs.lemmas.Option.{slice_get_within, get_or_from_slice_get}
-use Rattle.std.proofs.Common.{◌≡◌, ◌<◌, List, [], ◌∷◌, ◌++◌, length, append_assoc, refl, sym, ap, ap₂, ◌∙◌}
+use Rattle.std.proofs.Common.{◌≡◌, ◌<◌, List, [], ◌∷◌, ◌++◌, length, refl, sym, ap, ap₂}
 use Rattle.aml_namespace.specs.Known.{Known, path_at}
 use Rattle.aml_set.proofs.MethodLaws.{Keeps, still_at}
-use Rattle.aml_load.specs.declared.used.Asked.{Asked}
 use Rattle.aml_load.specs.declared.groups.Group.{Group}
-use Rattle.aml_load.specs.Groups.{AreKnown, group_uses, named_in, use_in, uses_of}
+use Rattle.aml_load.specs.Groups.{AreKnown, group_uses, named_in, uses_of}
 use Rattle.aml_load.specs.Declaring.{Use}
 
 module _ (k : Known) where
   pub group_more : (gs : List Group) (g : Group) → uses_of k (gs ++ g ∷ []) ≡ uses_of k gs ++ group_uses k g
   group_more gs g = sym (flat_map_more (group_uses k) [] gs g)
-
-  pub names_joined : (gs : List Group) (g h : Group) (names : List Asked) → h.scope ≡ g.scope
-      → h.names.items ≡ g.names.items ++ names
-      → uses_of k (gs ++ h ∷ []) ≡ uses_of k (gs ++ g ∷ []) ++ named_in (path_at k g.scope) names
-  names_joined gs g h names scope is =
-      let p = path_at k g.scope in
-      group_more gs h
-      ∙ (λ i. uses_of k gs ++ named_in (path_at k (scope i)) (is i))
-      ∙ ap (λ (us : List Use). uses_of k gs ++ us) (map-append (use_in p) g.names.items names)
-      ∙ sym (append_assoc (uses_of k gs) (group_uses k g) (named_in p names))
-      ∙ ap (λ (us : List Use). us ++ named_in p names) (sym (group_more gs g))
-
-  pub known_more : (gs : List Group) (g : Group) → AreKnown k gs → g.scope < length k.paths → AreKnown k (gs ++ g ∷ [])
-  known_more [] g all within = (within, tt)
-  known_more (first ∷ gs) g all within = (all.0, known_more gs g all.1 within)
 
   pub known_front : (gs : List Group) (g : Group) → AreKnown k (gs ++ g ∷ []) → AreKnown k gs × (g.scope < length k.paths)
   known_front [] g all = (tt, all.0)

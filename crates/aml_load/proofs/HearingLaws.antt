@@ -1,8 +1,7 @@
 -- What pieces declare is what their terms declare.
-use Rattle.std.proofs.Common.{◌≡◌, ℕ, Bool, true, false, cond, List, [], ◌∷◌, ◌++◌, ◌&&◌, Option, Some, None, option_map}
-use Rattle.std.proofs.Common.{Result, Ok, Err, refl, sym, ap, ◌∙◌, drop, unwrap_or}
+use Rattle.std.proofs.Common.{◌≡◌, ℕ, Bool, true, false, cond, List, [], ◌∷◌, ◌++◌, ◌&&◌, Option, Some, None}
+use Rattle.std.proofs.Common.{option_map, Result, Ok, Err, refl, sym, ap, ◌∙◌, drop, unwrap_or, append_assoc}
 use Rattle.std.proofs.lemmas.List.{append-nil}
-use Rattle.std.proofs.Common.{append_assoc}
 use Rattle.aml_code.specs.Lawful.{last_label, last_byte, unit_names}
 use Rattle.aml_load.specs.Loading.{Where}
 unfoldable use Rattle.aml_load.specs.Declaring.{declare_inside, declare, declare_all, declare_as}
@@ -20,17 +19,16 @@ use Rattle.aml_names.specs.declared.names.Name.{Name}
 use Rattle.aml_code.specs.declared.rows.PartKind.{PartKind}
 use Rattle.aml_code.specs.declared.rows.TailKind.TheVariants as tails
 use Rattle.aml_code.specs.Opcodes.{Row, row_of}
-use Rattle.aml_code.specs.Pieces.{Told, name, end_of_call, end_of_parts}
-use Rattle.aml_code.specs.Pieces.{end_of_list, end_of_line, end_of_link, deeper, part_count, pieces}
-use Rattle.aml_code.specs.Pieces.{items, more_items, part_pieces, parts_pieces, more_parts, tail_pieces, line_pieces}
-use Rattle.aml_code.specs.Pieces.{fields_pieces, field_pieces}
+use Rattle.aml_code.specs.Pieces.{Told, name, end_of_call, end_of_parts, end_of_list, end_of_line, end_of_link, deeper}
+use Rattle.aml_code.specs.Pieces.{part_count, pieces, items, more_items, part_pieces, parts_pieces, more_parts}
+use Rattle.aml_code.specs.Pieces.{tail_pieces, line_pieces, fields_pieces, field_pieces}
 use Rattle.aml_code.specs.Tree.{Tree, nothing, named, op, Trees, no_trees, tree_more, tree_count, Part, child, label}
 use Rattle.aml_code.specs.Tree.{byte, word, dword, qword, text, Parts, no_parts, part_more, Tail, empty, terms, bytes}
 use Rattle.aml_code.specs.Tree.{elements, fields, body, Field, unit, reserved, access, connection, extended, Fields}
 use Rattle.aml_code.specs.Tree.{no_fields, field_more, target, buffer}
 use Rattle.aml_load.specs.declared.faults.LoadFault.{LoadFault}
 use Rattle.aml_load.specs.Declaring.{◌>>=◌, Listed, Use, use_of, uses_in, all_uses, parts_uses, part_uses, tail_uses}
-use Rattle.aml_load.specs.Declaring.{fields_uses, field_uses, kinds_in, is_argument}
+use Rattle.aml_load.specs.Declaring.{fields_uses, field_uses, kinds_in, is_argument, term_uses}
 use Rattle.aml_load.specs.Hearing.{Head, Around, Heard, asks, inside, top}
 use Rattle.aml_load.specs.Hearing.{behind_head, with_units, with_tail, head_at}
 use Rattle.aml_load.specs.Hearing.{behind_term, catch, catch_all, closed, closed_by, left, opening, with_more, named_by, opened_by, hear, hear_all}
@@ -41,7 +39,6 @@ use Rattle.aml_load.specs.HearerLaws.{after}
 use Rattle.aml_code.specs.Pieces as told
 use Rattle.aml_code.specs.declared.packages.PkgWidth.{PkgWidth}
 use Rattle.aml_code.specs.declared.rows.TailKind.{TailKind}
-use Rattle.aml_load.specs.Declaring.{term_uses}
 unfoldable use Rattle.aml_load.specs.Front.{enters_as, enters_by, head_enters}
 use Rattle.aml_load.specs.Opening.{tail_of}
 unfoldable use Rattle.aml_load.specs.Running.{entered_at}

@@ -1,7 +1,6 @@
 -- What the progress holds after one entry more.
-use Rattle.std.proofs.Common.{◌≡◌, ◌-◌, nat_le, true, cond, List, [], ◌∷◌, ◌++◌, length, Option, Some, None}
-use Rattle.std.proofs.Common.{is_some, Result, Ok, Err, refl, map}
-use Rattle.std.proofs.Common.{sym, ap, subst, ◌∙◌, inl, inr, arith, Bool, false, not, ◌&&◌}
+use Rattle.std.proofs.Common.{◌≡◌, ◌-◌, nat_le, true, cond, List, [], ◌∷◌, ◌++◌, length, Option, Some, None, is_some}
+use Rattle.std.proofs.Common.{Result, Ok, Err, refl, map, sym, ap, subst, ◌∙◌, inl, inr, arith, Bool, false, not, ◌&&◌}
 use Rattle.std.proofs.lemmas.Bool.Decides.{nat_tests}
 use Rattle.std.proofs.lemmas.List.{append-nil, take_all}
 use Rattle.aml_names.specs.Names.{placed}
@@ -13,13 +12,12 @@ use Rattle.aml_namespace.specs.Kinds.{Kind}
 use Rattle.aml_namespace.specs.declared.kinds.Kind.TheVariants as kinds
 use Rattle.aml_space.specs.declared.faults.SpaceFault.TheVariants as faults
 use Rattle.aml_namespace.specs.Namespace.{Entry, Body, declares, declared_at}
-use Rattle.aml_namespace.specs.Known.{Grows, StandsAt, StandsFor}
+use Rattle.aml_namespace.specs.Known.{Grows, StandsAt, StandsFor, path_at}
 use Rattle.aml_namespace.proofs.Numbers.{still_at}
 use Rattle.aml_namespace.proofs.Stands.{stands_grown}
 use Rattle.aml_load.specs.declared.faults.LoadFault.{LoadFault}
 use Rattle.aml_load.specs.declared.faults.LoadFault.TheVariants as loads
 use Rattle.std.proofs.lemmas.Option.{slice_get_within, get_or_from_slice_get}
-use Rattle.aml_namespace.specs.Known.{path_at}
 use Rattle.aml_set.specs.declared.methods.Method.{Method as Kept}
 use Rattle.aml_set.specs.Methods.{Method, method_in, methods_in, AreNumbered}
 use Rattle.aml_set.proofs.MethodLaws.{as_many, one_method, one_numbered, same_methods, still_numbered}

@@ -8,9 +8,8 @@ use Rattle.std.specs.Result.{MatchResult}
 use Rattle.std.specs.List.{All, AllZip}
 use Rattle.std.specs.Option.{option_eq}
 use Rattle.std.proofs.Common.{◌≡◌, ◌≤◌, ◌⊎◌, ℕ, zero, suc, Bool, true, false, List, [], ◌∷◌, ◌++◌, length, None, Result}
-use Rattle.std.proofs.Common.{Ok, Err, refl, sym, ap, subst, ◌∙◌}
-use Rattle.std.proofs.Common.{append_assoc, inl, inr, slice_index_or, get_or, drop, ◌+◌, ◌<◌, arith, cond, nat_eq}
-use Rattle.std.proofs.Common.{Option, Some}
+use Rattle.std.proofs.Common.{Ok, Err, refl, sym, ap, subst, ◌∙◌, append_assoc, inl, inr, slice_index_or, get_or, drop}
+use Rattle.std.proofs.Common.{◌+◌, ◌<◌, arith, cond, nat_eq, Option, Some}
 use Rattle.std.proofs.lemmas.Bool.{eqb-true, eq-eqb}
 use Rattle.std.proofs.lemmas.List.{append-nil, drop_more}
 use Rattle.std.proofs.lemmas.List.Elements.{All-nil, All-cons, All-head, All-tail}
@@ -30,9 +29,8 @@ use Rattle.aml_load.specs.declared.faults.LoadFault.{LoadFault}
 use Rattle.aml_load.specs.declared.faults.LoadFault.TheVariants as loads
 use Rattle.aml_load.specs.Declaring.{◌>>=◌, Listed, Use, first_listed, strict, declare_all, use_count, call_fault}
 use Rattle.aml_load.specs.Declaring.{most_methods, uses_at}
-use Rattle.aml_load.specs.Loading.{methods_of}
+use Rattle.aml_load.specs.Loading.{methods_of, LoadsTo}
 use Rattle.aml_load.specs.Running.{Front, table_front, run_names}
-use Rattle.aml_load.specs.Loading.{LoadsTo}
 use Rattle.aml_load.specs.Tables.{ReadsOne, ReadTables, ListsTo, StopsOne, StopsTables, StopsFor, in_code, table_at}
 use Rattle.aml_load.specs.Tables.{tables_at, load_at, GivesBy, GivesLoad, Fails}
 use Rattle.aml_load.specs.Tables.{LoadsOneWay, LoadsForward, LoadsAgain, AreSpelled, LoadsInTextOrder}

@@ -1,10 +1,9 @@
 -- The walk over a table whose code outside methods may run, one term after the other: what was found before, and then
 -- what is still read, is all that is read.
-use Rattle.std.proofs.Common.{◌≡◌, ℕ, zero, suc, ◌+◌, ◌-◌, ◌≤◌, ◌<◌, true, false, cond, List, Result, Ok}
-use Rattle.std.proofs.Common.{Err, refl, sym, ap, subst}
-use Rattle.std.proofs.Common.{◌∙◌, arith, Bool, inl, inr, ◌⊎◌, Option, Some, None, IsTrue}
+use Rattle.std.proofs.Common.{◌≡◌, ℕ, zero, suc, ◌+◌, ◌-◌, ◌≤◌, ◌<◌, true, false, cond, List, Result, Ok, Err, refl}
+use Rattle.std.proofs.Common.{sym, ap, subst, ◌∙◌, arith, Bool, inl, inr, ◌⊎◌, Option, Some, None, IsTrue}
 use Rattle.aml_code.specs.Lawful.{next_position}
-use Rattle.aml_code.specs.Faults.{IsEnd}
+use Rattle.aml_code.specs.Faults.{IsEnd, Arities}
 use Rattle.aml_code.specs.Tree.{Tree, op, Trees, Parts, body}
 use Rattle.aml_code.specs.declared.packages.PkgWidth.{PkgWidth}
 use Rattle.aml_code.specs.declared.rows.Position.{Position}
@@ -17,7 +16,6 @@ use Rattle.aml_names.specs.declared.faults.CodeFault.TheVariants as codes
 use Rattle.aml_names.specs.declared.names.Name.{Name}
 use Rattle.aml_names.specs.declared.segments.Seg.{Seg}
 use Rattle.aml_names.specs.Paths.{PathSet}
-use Rattle.aml_code.specs.Faults.{Arities}
 use Rattle.aml_namespace.specs.Known.{BodyView, Known, StandsFor, outlook_in}
 use Rattle.aml_namespace.specs.Runs.{Outlook, agreed_arity}
 use Rattle.aml_namespace.proofs.Stands.{same_outlook}

@@ -29,16 +29,14 @@ use Rattle.aml_namespace.specs.Namespace.{Entry, Givens}
 use Rattle.aml_load.specs.declared.faults.LoadFault.{LoadFault}
 use Rattle.aml_load.specs.Declaring.{◌>>=◌, strict, Listed, Use, first_listed, with_uses, term_uses}
 use Rattle.aml_load.specs.Declaring.{most_methods, declare_as, declare, declare_inside, declare_all}
-use Rattle.aml_load.specs.Loading.{role_of, Where, methods_of, in_declaration, AddsUnits, Does, DoesTerm}
-use Rattle.aml_load.specs.Loading.{Agrees, TermsDeclare, TermDeclares, TermsRead, TermReads, TableLoads}
-use Rattle.aml_load.specs.Loading.{TablesLoad, LoadsTo}
+use Rattle.aml_load.specs.Loading.{role_of, Where, methods_of, in_declaration, AddsUnits, Does, DoesTerm, Agrees}
+use Rattle.aml_load.specs.Loading.{TermsDeclare, TermDeclares, TermsRead, TermReads, TableLoads, TablesLoad, LoadsTo}
 use Rattle.aml_load.specs.Running.{Front, entered_at, run_names}
 use Rattle.aml_load.specs.Tables.{ReadsOne, ReadTables, ListsTo}
 use Rattle.aml_load.proofs.Agreeing.{AgreesOne, Agree, All-left, All-right, told, module_agrees, module_told, run_agrees}
 use Rattle.aml_load.proofs.Agreeing.{emptied, run_told}
-use Rattle.aml_load.proofs.Doing.{DoesBy, Shaped, shaped, does_is, does_so}
-use Rattle.aml_load.proofs.Doing.{bound, with_entries, goes_in, GoesSo, strict_is, strict_so, run_site, front}
-use Rattle.aml_load.proofs.Doing.{enter_is, enter_so, is_flat}
+use Rattle.aml_load.proofs.Doing.{DoesBy, Shaped, shaped, does_is, does_so, bound, with_entries, goes_in, GoesSo}
+use Rattle.aml_load.proofs.Doing.{strict_is, strict_so, run_site, front, enter_is, enter_so, is_flat}
 use Rattle.aml_load.proofs.Holding.{methods_more}
 use Rattle.aml_load.proofs.NoSpans.{terms_tail}
 use Rattle.aml_load.proofs.RunSpans.{lists_in_text_order}

@@ -1,8 +1,7 @@
 -- The methods of tables stand in the order of the text, each once, and there aren't too many. Where the code outside
 -- methods may run, a term's own body is that of a method, and loading goes into all terms in which one can stand.
 use Rattle.std.proofs.Common.{◌≡◌, ℕ, zero, suc, Bool, true, false, not, cond, List, [], ◌∷◌, ◌++◌, length, map, Option}
-use Rattle.std.proofs.Common.{Some, None, Result, Ok, Err}
-use Rattle.std.proofs.Common.{refl, sym, ap, subst, ◌∙◌, ◌≤◌, arith, nat_le, ◌-◌, ◌+◌}
+use Rattle.std.proofs.Common.{Some, None, Result, Ok, Err, refl, sym, ap, subst, ◌∙◌, ◌≤◌, arith, nat_le, ◌-◌, ◌+◌}
 use Rattle.std.specs.Prelude.{IfOk}
 use Rattle.std.specs.FinSet as set
 use Rattle.std.specs.Option.{option_map, unwrap_or}
@@ -34,8 +33,7 @@ use Rattle.aml_load.specs.Tables.{ReadsOne, ReadTables, ListsTo}
 use Rattle.aml_load.proofs.Givens.{no_methods}
 use Rattle.aml_load.proofs.NoSpans.{parts_none, all_none, tail_none}
 use Rattle.aml_load.proofs.SpanLaws.{role_is, one_span, Adds, nothing_more, then_adds, plain_adds, method_adds}
-use Rattle.aml_load.proofs.SpanLaws.{GivesMore}
-use Rattle.aml_load.proofs.SpanLaws.{unless_adds, after_adds, entry_adds, new_adds, units_add, module_adds}
+use Rattle.aml_load.proofs.SpanLaws.{GivesMore, unless_adds, after_adds, entry_adds, new_adds, units_add, module_adds}
 
 -- ---- what the rows say of terms of such tables
 

@@ -25,8 +25,7 @@ use Rattle.aml_code.specs.Opcodes.{Row, rows, row_of, takes}
 use Rattle.aml_code.specs.Tree.{Tree, nothing, named, op, Trees, no_trees, tree_more, Parts, Tail, terms, elements}
 use Rattle.aml_code.specs.Tree.{fields, body}
 use Rattle.aml_code.specs.Lawful.{after, field_names, last_label, Setting, IsLawful, AreTerms, IsTail, ReadsModule}
-use Rattle.aml_code.specs.Lawful.{terms_in, tail_in, next_position, setting_of}
-use Rattle.aml_code.specs.Lawful.{no_arguments}
+use Rattle.aml_code.specs.Lawful.{terms_in, tail_in, next_position, setting_of, no_arguments}
 use Rattle.aml_code.proofs.RowFacts.{and_left, and_right, rows_say}
 use Rattle.aml_parse.specs.Reading.{takes_names}
 use Rattle.aml_namespace.specs.declared.kinds.Kind.TheVariants as kinds

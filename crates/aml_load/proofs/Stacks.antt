@@ -3,8 +3,7 @@ use Rattle.std.proofs.Common.{◌≡◌, ℕ, ◌+◌, ◌-◌, ◌<◌, List, [
 use Rattle.std.proofs.Common.{arith, drop, take, get_or, set}
 use Rattle.std.proofs.Math.ListN.{drop_of_length-le}
 use Rattle.std.proofs.Math.Seq.{set-append_seam}
-use Rattle.std.proofs.lemmas.List.{drop_more, take-append-drop, length-take-le}
-use Rattle.std.proofs.lemmas.List.{reverse-append, map-append}
+use Rattle.std.proofs.lemmas.List.{drop_more, take-append-drop, length-take-le, reverse-append, map-append}
 use Rattle.std.specs.List.{AllByRecursion}
 use Rattle.aml_namespace.specs.Known.{Known}
 use Rattle.aml_load.specs.Hearing.{Around}

@@ -22,13 +22,12 @@ use Rattle.aml_code.specs.Tree.{buffer, label, terms, body, tree_count}
 use Rattle.aml_space.specs.declared.faults.SpaceFault.{SpaceFault}
 use Rattle.aml_space.specs.declared.faults.SpaceFault.TheVariants as faults
 use Rattle.aml_namespace.specs.declared.kinds.Kind.TheVariants as kinds
-use Rattle.aml_namespace.specs.Namespace.{Entry, Givens, external, given_entries, declared_at, namespace_of}
-use Rattle.aml_namespace.specs.Namespace.{kind_at}
+use Rattle.aml_namespace.specs.Namespace.{Entry, Givens, external, given_entries, declared_at, namespace_of, kind_at}
+use Rattle.aml_namespace.specs.Namespace.{target_by}
 use Rattle.aml_namespace.specs.Runs.{outlook_of, agreed_arity}
 use Rattle.aml_load.specs.declared.faults.LoadFault.{LoadFault}
 use Rattle.aml_load.specs.declared.faults.LoadFault.TheVariants as loads
 use Rattle.aml_load.specs.Loading.{Where, role_of, kind_of, in_declaration, plain_entry, method_entry, leads}
-use Rattle.aml_namespace.specs.Namespace.{target_by}
 use Rattle.aml_load.specs.Loading.{alias_entry, methods_of}
 
 -- ---- Where a term stands.

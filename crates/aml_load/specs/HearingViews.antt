@@ -6,13 +6,12 @@ use Rattle.std.specs.Global.{Box}
 use Rattle.std.specs.Coded.{×_prop, Unit-prop, le_prop}
 use Rattle.aml_code.specs.Lawful.{plain_name}
 use Rattle.aml_names.specs.declared.names.Name.{Name}
-use Rattle.aml_namespace.specs.Known.{Known}
+use Rattle.aml_namespace.specs.Known.{Known, StandsFor}
 use Rattle.aml_load.specs.Declaring.{◌>>=◌, Listed, kinds_in, strict}
 use Rattle.aml_load.specs.Hearing.{Around, Head, Heard, catch, catch_all, hear, hear_all, enter, with_more, terms, run, head, inner}
 use Rattle.aml_load.specs.Hearing.{arguments, elements, units, nowhere}
 use Rattle.aml_load.specs.declared.groups.Group.{Group}
 use Rattle.aml_load.specs.Walking.{at_site, Holds}
-use Rattle.aml_namespace.specs.Known.{StandsFor}
 use Rattle.aml_set.specs.declared.tables.TableSet.{TableSet}
 use Rattle.aml_set.specs.Views.{methods_of_set}
 use Rattle.aml_code.specs.declared.rows.Role.{Role}

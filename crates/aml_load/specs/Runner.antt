@@ -1,9 +1,7 @@
 -- A stepping stone: what the walk over a table whose code outside methods may run makes of the progress, as `Running`
 -- says it.
-use Rattle.std.specs.Prelude.{◌≡◌, ◌≤◌, ◌<◌, ◌+◌, ◌-◌, ℕ, zero, suc, Bool, false, cond, List, length, Option}
-use Rattle.std.specs.Prelude.{Some}
-use Rattle.std.specs.Prelude.{None, Result, Ok, Err, option_map}
-use Rattle.std.specs.Prelude.{IsTrue}
+use Rattle.std.specs.Prelude.{◌≡◌, ◌≤◌, ◌<◌, ◌+◌, ◌-◌, ℕ, zero, suc, Bool, false, cond, List, length, Option, Some}
+use Rattle.std.specs.Prelude.{None, Result, Ok, Err, option_map, IsTrue}
 use Rattle.std.specs.Option.{unwrap_or}
 use Rattle.aml_parse.proofs.Forward.{is_run}
 use Rattle.aml_code.specs.Faults.{Arities, IsEnd, most_levels}
@@ -11,8 +9,7 @@ use Rattle.aml_code.specs.Lawful.{ReadsStep}
 use Rattle.aml_code.specs.Opcodes.{Row, row_of}
 use Rattle.aml_code.specs.Tree.{Tree, op, Trees, no_trees, terms, body}
 use Rattle.aml_code.specs.declared.rows.Position.{Position}
-use Rattle.aml_parse.specs.Running.{SpanReader, has_terms}
-use Rattle.aml_parse.specs.Running.{run_span_at}
+use Rattle.aml_parse.specs.Running.{SpanReader, has_terms, run_span_at}
 use Rattle.aml_load.specs.declared.faults.LoadFault.{LoadFault}
 use Rattle.aml_load.specs.declared.faults.LoadFault.TheVariants as loads
 use Rattle.aml_load.specs.declared.sites.Site.{Site}

@@ -4,10 +4,9 @@ use Rattle.aml_code.specs.Tree.{Tree, op, Trees}
 use Rattle.aml_namespace.specs.Namespace.{Entry, Givens}
 use Rattle.aml_load.specs.declared.faults.LoadFault.{LoadFault}
 use Rattle.aml_load.specs.Declaring.{◌>>=◌, strict, Listed, Use, first_listed, with_uses, declare_as}
-use Rattle.aml_load.specs.Loading.{Where, role_of}
+use Rattle.aml_load.specs.Loading.{Where, role_of, LoadsTo}
 use Rattle.aml_load.specs.Running.{Front, entered_at}
 use Rattle.aml_load.specs.Standing.{Standing, set_stands}
-use Rattle.aml_load.specs.Loading.{LoadsTo}
 
 -- what a term declares at a site, after l, without the terms inside it
 unfoldable pub alone_at : Where → Listed → Tree → Result Listed LoadFault

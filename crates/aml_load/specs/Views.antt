@@ -1,6 +1,5 @@
 -- What a loaded set is the load of.
-use Rattle.std.specs.Prelude.{◌≡◌, ℕ, List, [], map, slice_index_or, Some, ◌≢◌, Bool, ◌⊎◌}
-use Rattle.std.specs.Prelude.{Result, Ok, Err, Vec}
+use Rattle.std.specs.Prelude.{◌≡◌, ℕ, List, [], map, slice_index_or, Some, ◌≢◌, Bool, ◌⊎◌, Result, Ok, Err, Vec}
 use Rattle.std.specs.declared.alloc.Global.{Global}
 use Rattle.aml_code.specs.Pieces.{Told}
 use Rattle.aml_code.specs.Tree.{Trees, slice_of}

@@ -3,9 +3,8 @@ ghost use Rattle.std.specs.Prelude.{◌≡◌, ◌≤◌, false, [], ◌∷◌, 
 ghost use Rattle.std.specs.Prelude.{IfOk, IfErr, length};
 ghost use Rattle.aml_load.specs.Declaring.{Listed};
 ghost use Rattle.aml_load.specs.Hearing.{Heard};
-ghost use Rattle.aml_code.specs.Pieces.{piece_view};
+ghost use Rattle.aml_code.specs.Pieces.{piece_view, line_pieces};
 ghost use Rattle.aml_code.specs.Lawful.{no_arguments};
-ghost use Rattle.aml_code.specs.Pieces.{line_pieces};
 ghost use Rattle.aml_code.specs.Tree.{Trees};
 ghost use Rattle.aml_code.specs.declared.rows.Position.{Position};
 ghost use Rattle.aml_names.specs.NameReading.{Fails as NotRead};

@@ -15,7 +15,7 @@ use crate::ears::{Around, Ears, Head};
 use crate::faults::LoadFault;
 use crate::roles::kind_of;
 use crate::sites::Site;
-use crate::walking::Progress;
+use crate::walking::{Progress, Sought};
 use aml_code::{NoMemory, Piece, Role, TailKind};
 use aml_space::{Kind, PathId};
 
@@ -187,7 +187,7 @@ impl Progress {
         ensures stays { OnOk result (Stays self.old self.new) }
     {
         self.expect_search(&head.site, head.last());
-        let path = self.scope_path(&head.site, head.last())?;
+        let path = self.led_path(&head.site, head.last(), Sought::Scope)?;
         let site = head.site.under(self, &path, head.site.sure)?;
         Ok(Some(site))
     }

@@ -1,8 +1,8 @@
 //! The load of tables in their order.
 ghost use Rattle.std.specs.Prelude.{◌≡◌, ◌⊎◌, true, false, List, Bool, Err, IfOk, IfErr, Some, length};
+ghost use Rattle.std.specs.Prelude.{nat_eq, ◌≤◌, ◌||◌};
 ghost use Rattle.aml_names.specs.declared.segments.Seg.{Seg as AnySeg};
 ghost use Rattle.aml_load.specs.Groups.{group_uses, use_in, uses_of};
-ghost use Rattle.std.specs.Prelude.{nat_eq, ◌≤◌, ◌||◌};
 ghost use Rattle.std.specs.Option.{option_eq};
 ghost use Rattle.aml_code.specs.Tree.{Trees};
 ghost use Rattle.aml_namespace.specs.Namespace.{Entry, given_entries};

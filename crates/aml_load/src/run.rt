@@ -1,18 +1,16 @@
 //! The terms of a table whose code outside methods may run: each is told as it is read, and declares before the next one
 //! is read.
 ghost use Rattle.std.specs.Prelude.{◌≡◌, ◌≤◌, ◌++◌, ◌∷◌, [], List, Option, length, IfOk, IfErr, OnOk};
-ghost use Rattle.aml_code.specs.Lawful.{next_position};
 ghost use Rattle.aml_code.specs.Pieces.{Told, deeper, line_pieces, pieces, line, end_of_line};
 ghost use Rattle.aml_code.specs.Tree.{Tree, Trees};
-ghost use Rattle.aml_load.specs.Declaring.{Listed};
 ghost use Rattle.aml_load.specs.Front.{HasBegunAt, IsHeard};
 ghost use Rattle.aml_load.specs.Opening.{front_pieces};
 ghost use Rattle.aml_load.specs.HearingViews.{AreNumbered, Goes};
 ghost use Rattle.aml_load.specs.Hearing.{catch_all};
 ghost use Rattle.aml_load.specs.Run.{FailsEntering, FailsHead, FailsOpening, FailsStep, FailsTerm, FailsTerms, FailsTable, HeadTo, OpensTo};
 ghost use Rattle.aml_load.specs.Run.{RunsTo, RunsAllTo, RunsTableTo, IsBehind, StepTo, Fronts};
-ghost use Rattle.aml_load.specs.Runner.{HasRoom, IsThere, RoomBy, span_inside};
-ghost use Rattle.aml_load.specs.Walking.{Holds, IsInside, Stays};
+ghost use Rattle.aml_load.specs.Runner.{HasRoom, RoomBy, span_inside};
+ghost use Rattle.aml_load.specs.Walking.{IsInside, Stays};
 
 use crate::ears::{Around, Ears};
 use crate::faults::LoadFault;

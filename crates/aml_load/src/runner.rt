@@ -1,12 +1,10 @@
 //! The walk over a table whose code outside methods may run.
-ghost use Rattle.std.specs.Prelude.{◌≡◌, [], length, IfOk, OnOk, Ok};
-ghost use Rattle.std.specs.Prelude.{is_some, ◌&&◌};
+ghost use Rattle.std.specs.Prelude.{◌≡◌, [], IfOk, OnOk, Ok, is_some, ◌&&◌, IfSome, option_map};
 ghost use Rattle.std.specs.Option.{option_copied};
 ghost use Rattle.std.specs.FinSet as set;
 ghost use Rattle.aml_namespace.specs.Namespace.{namespace_of, found};
-ghost use Rattle.aml_namespace.specs.Known.{StandsFor};
+ghost use Rattle.aml_namespace.specs.Known.{StandsFor, StandsAt, path_at};
 ghost use Rattle.aml_space.specs.Below.{path_below};
-ghost use Rattle.aml_namespace.specs.Known.{StandsAt, path_at};
 ghost use Rattle.aml_load.specs.Declaring.{Listed};
 ghost use Rattle.aml_load.specs.Running.{opened_at, object_at, scope_at};
 ghost use Rattle.aml_namespace.specs.Kinds.{kind_in};
@@ -14,7 +12,6 @@ ghost use Rattle.aml_load.specs.Walking.{at_site, GivesIn, Holds, IsInside, Stay
 ghost use Rattle.aml_load.specs.Runner.{IsFlat, IsSiteOf, Comes};
 ghost use Rattle.aml_load.specs.Front.{enters_as, head_enters};
 ghost use Rattle.aml_load.specs.HearingViews.{head_view};
-ghost use Rattle.std.specs.Prelude.{IfSome, option_map};
 
 use crate::ears::{Head, Shape};
 use crate::faults::LoadFault;

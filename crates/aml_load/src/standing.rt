@@ -7,7 +7,7 @@ ghost use Rattle.aml_set.specs.Views.{trees_view};
 ghost use Rattle.aml_load.specs.Declaring.{Listed};
 ghost use Rattle.aml_load.specs.HearingViews.{Entered};
 ghost use Rattle.aml_load.specs.Standing.{stands, set_stands};
-ghost use Rattle.aml_load.specs.Standings.{standings_view, AreStanding, Finds, Found, set_declares, enters_at};
+ghost use Rattle.aml_load.specs.Standings.{standings_view, AreStanding, Finds, set_declares, enters_at};
 ghost use Rattle.aml_load.specs.Standings.{walk, walk_within, walk_all, walk_tables, met, met_within, met_all, met_tables};
 ghost use Rattle.aml_load.specs.Loading.{LoadsTo};
 ghost use Rattle.aml_load.specs.Tables.{Fails};

@@ -3,32 +3,25 @@
 -- front (`read_on`), and the next one goes on behind it. The reader of the terms inside is any with that law
 -- (`IsReader`).
 use Rattle.aml_parse.proofs.Common.{little_again, length_again, ◌≡◌, ℕ, zero, suc, ◌+◌, ◌-◌, ◌≤◌, Bool, true, false}
-use Rattle.aml_parse.proofs.Common.{cond, ◌==◌, List, [], ◌∷◌, ◌++◌, length}
-use Rattle.aml_parse.proofs.Common.{drop, Option, Some, None, Result, Ok, Err, refl, sym, ap, subst, ◌∙◌, append_assoc}
-use Rattle.aml_parse.proofs.Common.{arith, inl, inr, eqb-true, ne_eqb}
+use Rattle.aml_parse.proofs.Common.{cond, ◌==◌, List, [], ◌∷◌, ◌++◌, length, drop, Option, Some, None, Result, Ok, Err}
+use Rattle.aml_parse.proofs.Common.{refl, sym, ap, subst, ◌∙◌, append_assoc, arith, inl, inr, eqb-true, ne_eqb}
 use Rattle.aml_parse.proofs.Common.{length-append, append-nil, length-take, length-drop, CodeFault, ok_or, Name}
-use Rattle.aml_parse.proofs.Common.{is_lead_char, IsNameSeg, IsName, spelling}
-use Rattle.aml_parse.proofs.Common.{is_name_lead, is_bare, PathSet, name_again, name_lead, PkgWidth, PartKind, Position}
-use Rattle.aml_parse.proofs.Common.{TailKind, Row, row_of, has_length}
-use Rattle.aml_parse.proofs.Common.{takes, width_len, package_bytes, FitsWidth, Tree, nothing, named, op, Trees}
-use Rattle.aml_parse.proofs.Common.{no_trees, tree_more, Part, child, label, byte}
-use Rattle.aml_parse.proofs.Common.{word, dword, qword, text, Parts, no_parts, part_more, tree_count, Tail, empty}
-use Rattle.aml_parse.proofs.Common.{terms, elements, fields, body, Field, unit}
-use Rattle.aml_parse.proofs.Common.{reserved, access, connection, extended, Fields, no_fields, field_more, Link, target}
-use Rattle.aml_parse.proofs.Common.{buffer, opcode_bytes, packed, slice_of}
-use Rattle.aml_parse.proofs.Common.{encoding, encodings, part_encoding, parts_encoding, tail_encoding, field_encoding}
-use Rattle.aml_parse.proofs.Common.{fields_encoding, link_encoding}
-use Rattle.aml_parse.proofs.Common.{declared_by, after, after_all, after_tail, is_guard, taker_takes, inside_guard}
-use Rattle.aml_parse.proofs.Common.{terms_in, tail_in, option_map, next_position, Setting}
-use Rattle.aml_parse.proofs.Common.{IsLawful, AreTerms}
-use Rattle.aml_parse.proofs.Common.{IsPart, AreParts, IsTail, IsField, AreFields, BodyStands, BodiesStand, TailStands}
-use Rattle.aml_parse.proofs.Common.{read_on, is_inner, unchanged}
-use Rattle.aml_parse.proofs.Common.{all_unchanged, span_again, row_is_opcode, lead_of, row_apart, target_opcode}
-use Rattle.aml_parse.proofs.Common.{opcode_lead}
+use Rattle.aml_parse.proofs.Common.{is_lead_char, IsNameSeg, IsName, spelling, is_name_lead, is_bare, PathSet}
+use Rattle.aml_parse.proofs.Common.{name_again, name_lead, PkgWidth, PartKind, Position, TailKind, Row, row_of}
+use Rattle.aml_parse.proofs.Common.{has_length, takes, width_len, package_bytes, FitsWidth, Tree, nothing, named, op}
+use Rattle.aml_parse.proofs.Common.{Trees, no_trees, tree_more, Part, child, label, byte, word, dword, qword, text}
+use Rattle.aml_parse.proofs.Common.{Parts, no_parts, part_more, tree_count, Tail, empty, terms, elements, fields, body}
+use Rattle.aml_parse.proofs.Common.{Field, unit, reserved, access, connection, extended, Fields, no_fields, field_more}
+use Rattle.aml_parse.proofs.Common.{Link, target, buffer, opcode_bytes, packed, slice_of, encoding, encodings}
+use Rattle.aml_parse.proofs.Common.{part_encoding, parts_encoding, tail_encoding, field_encoding, fields_encoding}
+use Rattle.aml_parse.proofs.Common.{link_encoding, declared_by, after, after_all, after_tail, is_guard, taker_takes}
+use Rattle.aml_parse.proofs.Common.{inside_guard, terms_in, tail_in, option_map, next_position, Setting, IsLawful}
+use Rattle.aml_parse.proofs.Common.{AreTerms, IsPart, AreParts, IsTail, IsField, AreFields, BodyStands, BodiesStand}
+use Rattle.aml_parse.proofs.Common.{TailStands, read_on, is_inner, unchanged, all_unchanged, span_again, row_is_opcode}
+use Rattle.aml_parse.proofs.Common.{lead_of, row_apart, target_opcode, opcode_lead}
 use Rattle.aml_parse.specs.Reading.{Reader, flat, held, held_inside, part_at, parts_at, arguments_at, terms_at}
-use Rattle.aml_parse.specs.Reading.{to_end_at, segmented_at, named_unit, link_at}
-use Rattle.aml_parse.specs.Reading.{access_unit, extended_unit, field_at, fields_at, call_at, takes_names, refusal}
-use Rattle.aml_parse.specs.Reading.{body_to, tail_at, plain_at, packed_at}
+use Rattle.aml_parse.specs.Reading.{to_end_at, segmented_at, named_unit, link_at, access_unit, extended_unit, field_at}
+use Rattle.aml_parse.specs.Reading.{fields_at, call_at, takes_names, refusal, body_to, tail_at, plain_at, packed_at}
 use Rattle.aml_parse.specs.Reading.{row_at, taken_at, operation_at, is_absent_target, term_at}
 use Rattle.aml_parse.proofs.FlatLaws.{count_again, text_again, segmented_again, opcode_again, apart, named_unit_again}
 use Rattle.aml_parse.proofs.Loops.{turn}

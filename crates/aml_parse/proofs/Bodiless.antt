@@ -1,12 +1,10 @@
 -- Outside the terms of a table there is no method's body, and no other span that is read later.
 use Rattle.aml_parse.proofs.Common.{TailKind, ◌≡◌, ℕ, ◌+◌, ◌-◌, Bool, true, false, cond, not, List, ◌++◌, length, Some}
-use Rattle.aml_parse.proofs.Common.{refl, ap, ◌⊎◌, inl, inr, arith}
-use Rattle.aml_parse.proofs.Common.{length-append, front_length, empty, Place, Position, Row, rows, row_of, takes}
-use Rattle.aml_parse.proofs.Common.{PkgWidth, width_len, length-package_bytes, Tree, op, Trees}
-use Rattle.aml_parse.proofs.Common.{tree_more, Parts, Tail, encoding, encodings, parts_encoding, tail_encoding}
-use Rattle.aml_parse.proofs.Common.{terms_in, has_opcode}
-use Rattle.aml_parse.proofs.Common.{next_position, tail_in, option_map, BodyStands, BodiesStand, TailStands, is_body}
-use Rattle.aml_parse.proofs.Common.{not_true, rows_say}
+use Rattle.aml_parse.proofs.Common.{refl, ap, ◌⊎◌, inl, inr, arith, length-append, front_length, empty, Place, Position}
+use Rattle.aml_parse.proofs.Common.{Row, rows, row_of, takes, PkgWidth, width_len, length-package_bytes, Tree, op}
+use Rattle.aml_parse.proofs.Common.{Trees, tree_more, Parts, Tail, encoding, encodings, parts_encoding, tail_encoding}
+use Rattle.aml_parse.proofs.Common.{terms_in, has_opcode, next_position, tail_in, option_map, BodyStands, BodiesStand}
+use Rattle.aml_parse.proofs.Common.{TailStands, is_body, not_true, rows_say}
 
 -- a position that isn't a term of a table
 abbrev pub is_bodiless : Position → Bool

@@ -1,12 +1,10 @@
 -- What holds no terms is read again from its bytes, whatever follows them.
 use Rattle.aml_parse.proofs.Common.{CodeFault, ◌≡◌, ℕ, suc, ◌+◌, ◌-◌, ◌/◌, ◌%◌, ◌^◌, ◌<◌, ◌≤◌, true, false, cond, eqb}
-use Rattle.aml_parse.proofs.Common.{ltb, ◌==◌, List, [], ◌∷◌, ◌++◌, length}
-use Rattle.aml_parse.proofs.Common.{drop, Ok, Err, refl, sym, ap, subst, ◌∙◌, append_assoc, arith, inl, inr, All}
-use Rattle.aml_parse.proofs.Common.{position_or_len, ne_eqb, lt-ltb, le-ltb}
+use Rattle.aml_parse.proofs.Common.{ltb, ◌==◌, List, [], ◌∷◌, ◌++◌, length, drop, Ok, Err, refl, sym, ap, subst, ◌∙◌}
+use Rattle.aml_parse.proofs.Common.{append_assoc, arith, inl, inr, All, position_or_len, ne_eqb, lt-ltb, le-ltb}
 use Rattle.aml_parse.proofs.Common.{length-append, take_at, drop_at, Name, Seg, is_lead_char, IsNameSeg, IsName}
-use Rattle.aml_parse.proofs.Common.{spelling, has_segment, segment_again}
-use Rattle.aml_parse.proofs.Common.{name_again, PkgWidth, little, package_bytes, FitsWidth, byte, text, unit}
-use Rattle.aml_parse.proofs.Common.{opcode_bytes, IsOpcode, read_on, little_again}
+use Rattle.aml_parse.proofs.Common.{spelling, has_segment, segment_again, name_again, PkgWidth, little, package_bytes}
+use Rattle.aml_parse.proofs.Common.{FitsWidth, byte, text, unit, opcode_bytes, IsOpcode, read_on, little_again}
 use Rattle.aml_parse.proofs.Common.{length_again}
 use Rattle.aml_parse.specs.Reading.{count_part, text_part, segmented_at, opcode_at, named_unit}
 

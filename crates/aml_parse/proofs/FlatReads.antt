@@ -1,21 +1,17 @@
 -- What a step that holds no terms reads is spelled by the bytes that were taken, and its fault is true of the code.
 use Rattle.aml_parse.proofs.Common.{nil_from_length, ◌≡◌, ℕ, zero, suc, ◌+◌, ◌-◌, ◌<◌, ◌≤◌, ◌/◌, ◌%◌, ◌^◌, Bool, true}
-use Rattle.aml_parse.proofs.Common.{false, cond, eqb, ltb, ◌==◌, List, []}
-use Rattle.aml_parse.proofs.Common.{◌∷◌, ◌++◌, length, get_or, take, drop, Option, Some, None, Result, Ok, Err, refl}
-use Rattle.aml_parse.proofs.Common.{sym, ap, subst, ◌∙◌, append_assoc, arith}
+use Rattle.aml_parse.proofs.Common.{false, cond, eqb, ltb, ◌==◌, List, [], ◌∷◌, ◌++◌, length, get_or, take, drop}
+use Rattle.aml_parse.proofs.Common.{Option, Some, None, Result, Ok, Err, refl, sym, ap, subst, ◌∙◌, append_assoc, arith}
 use Rattle.aml_parse.proofs.Common.{inl, inr, position, All, drop-cons, eqb-true, eqb-false, ltb-true, ltb-false}
-use Rattle.aml_parse.proofs.Common.{lt-ltb, le-ltb, take-append-drop}
-use Rattle.aml_parse.proofs.Common.{position-Some, CodeFault, IsNameSeg, IsName, spelling, name_at, segment_at}
-use Rattle.aml_parse.proofs.Common.{has_segment, ◌>>=◌, byte_at, PathSet}
-use Rattle.aml_parse.proofs.Common.{segment_fault, segment_takes, name_takes, name_fault, ok_is, err_is, IsBytes}
-use Rattle.aml_parse.proofs.Common.{IsBytes-drop, Takes, Takes-then, byte_takes}
-use Rattle.aml_parse.proofs.Common.{byte_fault, little, package_bytes, FitsWidth, little_at, length_at, span_at, Part}
-use Rattle.aml_parse.proofs.Common.{byte, text, Field, opcode_bytes}
-use Rattle.aml_parse.proofs.Common.{part_encoding, field_encoding, IsOpcode, StandsAt, Setting, IsLawful, IsField}
-use Rattle.aml_parse.proofs.Common.{IsSpan, little_takes, little_fault}
-use Rattle.aml_parse.proofs.Common.{length_takes, length_fault, span_takes, span_fault, Within, onward, text_there}
-use Rattle.aml_parse.proofs.Common.{byte_there, end_there, truncated_placed}
-use Rattle.aml_parse.proofs.Common.{offset_is, ok_or, length_placed, past_placed, name_placed, Left, PkgWidth, Seg}
+use Rattle.aml_parse.proofs.Common.{lt-ltb, le-ltb, take-append-drop, position-Some, CodeFault, IsNameSeg, IsName}
+use Rattle.aml_parse.proofs.Common.{spelling, name_at, segment_at, has_segment, ◌>>=◌, byte_at, PathSet, segment_fault}
+use Rattle.aml_parse.proofs.Common.{segment_takes, name_takes, name_fault, ok_is, err_is, IsBytes, IsBytes-drop, Takes}
+use Rattle.aml_parse.proofs.Common.{Takes-then, byte_takes, byte_fault, little, package_bytes, FitsWidth, little_at}
+use Rattle.aml_parse.proofs.Common.{length_at, span_at, Part, byte, text, Field, opcode_bytes, part_encoding}
+use Rattle.aml_parse.proofs.Common.{field_encoding, IsOpcode, StandsAt, Setting, IsLawful, IsField, IsSpan}
+use Rattle.aml_parse.proofs.Common.{little_takes, little_fault, length_takes, length_fault, span_takes, span_fault}
+use Rattle.aml_parse.proofs.Common.{Within, onward, text_there, byte_there, end_there, truncated_placed, offset_is}
+use Rattle.aml_parse.proofs.Common.{ok_or, length_placed, past_placed, name_placed, Left, PkgWidth, Seg}
 use Rattle.aml_parse.specs.Reading.{held, count_part, text_part, segmented_at, opcode_at, named_unit, reserved_unit}
 use Rattle.aml_parse.specs.Reading.{access_unit, extended_unit}
 

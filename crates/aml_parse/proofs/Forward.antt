@@ -1,17 +1,14 @@
 -- Reading a table whose code may run forward gives the terms that it reads as, and stops only for a reason that is
 -- true.
 use Rattle.aml_parse.proofs.Common.{◌≡◌, ℕ, zero, suc, ◌+◌, ◌-◌, ◌≤◌, ◌<◌, Bool, true, false, cond, List, ◌++◌, length}
-use Rattle.aml_parse.proofs.Common.{Option, Some, None, Result, Ok, Err}
-use Rattle.aml_parse.proofs.Common.{refl, sym, ap, subst, ◌∙◌, arith, inl, inr, append_assoc, length-append}
-use Rattle.aml_parse.proofs.Common.{length-take, length-drop, IsBytes, CodeFault}
-use Rattle.aml_parse.proofs.Common.{Position, TailKind, Tree, op, Trees, no_trees, tree_more, Parts, Tail, terms, body}
-use Rattle.aml_parse.proofs.Common.{opcode_bytes}
-use Rattle.aml_parse.proofs.Common.{encoding, encodings, parts_encoding, slice_of, package_bytes, width_len}
-use Rattle.aml_parse.proofs.Common.{PathSet, Setting, setting_of, IsLawful, IsTail, HasWidth, has_length, tail_in}
-use Rattle.aml_parse.proofs.Common.{option_map, ReadsStep, next_position}
-use Rattle.aml_parse.proofs.Common.{has_opcode, PkgWidth, Arities, StandsThere, IsEnd, Row, opcode_some, BodyStands}
-use Rattle.aml_parse.proofs.Common.{take, drop}
-use Rattle.aml_parse.proofs.Common.{BodiesStand, packed, drop_at, front_length, []}
+use Rattle.aml_parse.proofs.Common.{Option, Some, None, Result, Ok, Err, refl, sym, ap, subst, ◌∙◌, arith, inl, inr}
+use Rattle.aml_parse.proofs.Common.{append_assoc, length-append, length-take, length-drop, IsBytes, CodeFault, Position}
+use Rattle.aml_parse.proofs.Common.{TailKind, Tree, op, Trees, no_trees, tree_more, Parts, Tail, terms, body}
+use Rattle.aml_parse.proofs.Common.{opcode_bytes, encoding, encodings, parts_encoding, slice_of, package_bytes}
+use Rattle.aml_parse.proofs.Common.{width_len, PathSet, Setting, setting_of, IsLawful, IsTail, HasWidth, has_length}
+use Rattle.aml_parse.proofs.Common.{tail_in, option_map, ReadsStep, next_position, has_opcode, PkgWidth, Arities}
+use Rattle.aml_parse.proofs.Common.{StandsThere, IsEnd, Row, opcode_some, BodyStands, take, drop, BodiesStand, packed}
+use Rattle.aml_parse.proofs.Common.{drop_at, front_length, []}
 use Rattle.aml_code.proofs.LengthLaws.{width_some}
 use Rattle.std.proofs.Math.Seq.{take-append-add}
 use Rattle.std.proofs.lemmas.List.{take_all}
@@ -22,10 +19,8 @@ use Rattle.std.specs.Result.{MatchResult}
 use Rattle.std.proofs.lemmas.Bool.Decides.{nat_tests}
 use Rattle.aml_parse.specs.Reading.{step_at}
 use Rattle.aml_parse.specs.Running.{Names, has_terms, is_block, ReadsTerms, Opens, StopsTerms, at_code, at_declaring}
-use Rattle.aml_parse.specs.Running.{inside_term, behind_term}
-use Rattle.aml_parse.specs.Running.{◌>>=◌, SpanReader, in_step, opened_at, run_term_at, run_terms_at, run_span_at}
-use Rattle.aml_parse.specs.Running.{run_table_at, ReadsForward, ReadsItAgain}
-use Rattle.aml_parse.specs.Running.{SpellsTable}
+use Rattle.aml_parse.specs.Running.{inside_term, behind_term, ◌>>=◌, SpanReader, in_step, opened_at, run_term_at}
+use Rattle.aml_parse.specs.Running.{run_terms_at, run_span_at, run_table_at, ReadsForward, ReadsItAgain, SpellsTable}
 use Rattle.aml_parse.proofs.Steps.{step_reads, step_again}
 use Rattle.aml_parse.proofs.OneWay.{span_is_inside, some_there}
 

@@ -1,15 +1,12 @@
 -- The first byte of a term, and the guard of a table.
 use Rattle.aml_parse.proofs.Common.{◌≡◌, ℕ, zero, suc, Bool, true, false, List, [], ◌∷◌, ◌++◌, length, Option, Some}
-use Rattle.aml_parse.proofs.Common.{None, Ok, refl, sym, ap, subst, ◌<◌, ◌∙◌}
-use Rattle.aml_parse.proofs.Common.{append_assoc, arith, inl, inr, eqb-true, eq-eqb, append-nil, Name, IsName, spelling}
-use Rattle.aml_parse.proofs.Common.{is_name_lead, is_bare, PathSet}
+use Rattle.aml_parse.proofs.Common.{None, Ok, refl, sym, ap, subst, ◌<◌, ◌∙◌, append_assoc, arith, inl, inr, eqb-true}
+use Rattle.aml_parse.proofs.Common.{eq-eqb, append-nil, Name, IsName, spelling, is_name_lead, is_bare, PathSet}
 use Rattle.aml_parse.proofs.Common.{name_lead, PkgWidth, PartKind, Position, TailKind, row_of, has_length, Tree}
-use Rattle.aml_parse.proofs.Common.{nothing, named, op, child, Parts, no_parts}
-use Rattle.aml_parse.proofs.Common.{part_more, Tail, empty, opcode_bytes, packed, encoding, encodings, parts_encoding}
-use Rattle.aml_parse.proofs.Common.{tail_encoding, HasWidth}
-use Rattle.aml_parse.proofs.Common.{terms_in, tail_in, option_map, has_opcode, Setting, IsLawful, AreParts, IsTail}
-use Rattle.aml_parse.proofs.Common.{zero_bare, lead_of, opcode_lead}
-use Rattle.aml_parse.proofs.Common.{row_lead_is}
+use Rattle.aml_parse.proofs.Common.{nothing, named, op, child, Parts, no_parts, part_more, Tail, empty, opcode_bytes}
+use Rattle.aml_parse.proofs.Common.{packed, encoding, encodings, parts_encoding, tail_encoding, HasWidth, terms_in}
+use Rattle.aml_parse.proofs.Common.{tail_in, option_map, has_opcode, Setting, IsLawful, AreParts, IsTail, zero_bare}
+use Rattle.aml_parse.proofs.Common.{lead_of, opcode_lead, row_lead_is}
 use Rattle.aml_parse.specs.Reading.{guard_at}
 
 name_leads : (n : Name) (behind rest : List ℕ) (b : ℕ) → IsName n → is_bare n ≡ false → spelling n ++ rest ≡ b ∷ behind

@@ -2,8 +2,7 @@
 use Rattle.aml_parse.proofs.Common.{◌≡◌, ℕ, zero, suc, ◌-◌, ◌<◌, List, [], ◌∷◌, ◌++◌, length, Result, Ok, Err, refl}
 use Rattle.aml_parse.proofs.Common.{sym, ap, ◌∙◌, arith, inl, inr, CodeFault}
 use Rattle.aml_parse.proofs.Common.{PathSet, ◌>>=◌, Fails, PartKind, Position, Tree, Trees, no_trees, tree_more, Parts}
-use Rattle.aml_parse.proofs.Common.{no_parts, part_more, node_view, nodes_view, read_on}
-use Rattle.aml_code.specs.declared.tree.Node.{Node}
+use Rattle.aml_parse.proofs.Common.{no_parts, part_more, read_on}
 use Rattle.aml_code.specs.Tree.{Part as AnyPart}
 use Rattle.aml_parse.specs.Reading.{Reader, ReaderToEnd, part_at, parts_at, arguments_at, to_end_at}
 
@@ -35,10 +34,6 @@ module _ {X A AS : Type 0} (see : X → A) (more : A → AS → AS) where
       → then_all front (read >>= λ r. Ok (more (see x) r.0, r.1)) ≡ then_all (front ++ x ∷ []) read
   all_regroup front x (Ok r) = ap (λ (all : AS). Ok (all, r.1)) (sym (onto_more front x r.0))
   all_regroup front x (Err e) = refl
-
-pub nodes_found : (front : List Node) → onto node_view tree_more front no_trees ≡ nodes_view front
-nodes_found [] = refl
-nodes_found (n ∷ front) = ap (tree_more (node_view n)) (nodes_found front)
 
 -- ---- parts
 

@@ -1,10 +1,8 @@
 -- A table whose code may run reads one way.
 use Rattle.aml_parse.proofs.Common.{◌≡◌, ℕ, zero, suc, ◌+◌, ◌-◌, ◌≤◌, ◌<◌, List, length, Option, Some, None, Result, Ok}
-use Rattle.aml_parse.proofs.Common.{refl, sym, ap, subst, ◌∙◌, arith}
-use Rattle.aml_parse.proofs.Common.{ok_is}
-use Rattle.aml_parse.proofs.Common.{Position, TailKind, Tree, op, Trees, no_trees, tree_more, Parts, terms, body}
-use Rattle.aml_parse.proofs.Common.{PathSet, Setting, setting_of, IsLawful, IsTail, ReadsStep, next_position, PkgWidth}
-use Rattle.aml_parse.proofs.Common.{Arities}
+use Rattle.aml_parse.proofs.Common.{refl, sym, ap, subst, ◌∙◌, arith, ok_is, Position, TailKind, Tree, op, Trees}
+use Rattle.aml_parse.proofs.Common.{no_trees, tree_more, Parts, terms, body, PathSet, Setting, setting_of, IsLawful}
+use Rattle.aml_parse.proofs.Common.{IsTail, ReadsStep, next_position, PkgWidth, Arities}
 use Rattle.std.specs.FinSet as set
 use Rattle.aml_parse.specs.Running.{Names, ReadsTerms, Opens, ReadsOneWay}
 use Rattle.aml_parse.proofs.Took.{nonempty}

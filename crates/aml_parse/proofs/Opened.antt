@@ -1,7 +1,6 @@
 -- What an opcode is read as that its position takes.
-use Rattle.aml_parse.proofs.Common.{◌≡◌, ℕ, zero, suc, false, List, length, Option, Ok, refl, ◌-◌, Seg}
-use Rattle.aml_parse.proofs.Common.{is_name_lead, byte_at, read_on, PathSet, Row, Position, TailKind, Arities, arith}
-use Rattle.aml_parse.proofs.Common.{◌<◌}
+use Rattle.aml_parse.proofs.Common.{◌≡◌, ℕ, zero, suc, false, List, length, Option, Ok, refl, ◌-◌, Seg, is_name_lead}
+use Rattle.aml_parse.proofs.Common.{byte_at, read_on, PathSet, Row, Position, TailKind, Arities, arith, ◌<◌}
 use Rattle.aml_parse.specs.Reading.{row_at, taken_at, operation_at, is_absent_target, term_at, read_at}
 
 pub opcode_read : (arity : Arities) (scope : Option (List Seg)) (levels : ℕ) (p : Position) (end : ℕ) (ls : PathSet) (bs : List ℕ) (lead : ℕ × List ℕ)

@@ -1,9 +1,8 @@
 -- No lawful term's bytes begin another's, and terms with the same bytes are the same: the reader reads each lawful term
 -- again from its bytes, whatever is behind them, and it answers one term.
 use Rattle.aml_parse.proofs.Common.{◌≡◌, ℕ, ◌+◌, List, [], ◌++◌, length, Option, refl, sym, ap, ◌∙◌, arith, inr}
-use Rattle.aml_parse.proofs.Common.{append-nil, Seg, PathSet, ok_is, Position}
-use Rattle.aml_parse.proofs.Common.{Tree, Trees, encoding, encodings, after, after_all, IsLawful, AreTerms, setting_of}
-use Rattle.aml_parse.proofs.Common.{Arities, IsTermAt, AreTermsAt}
+use Rattle.aml_parse.proofs.Common.{append-nil, Seg, PathSet, ok_is, Position, Tree, Trees, encoding, encodings, after}
+use Rattle.aml_parse.proofs.Common.{after_all, IsLawful, AreTerms, setting_of, Arities, IsTermAt, AreTermsAt}
 use Rattle.aml_parse.proofs.Common.{NoProperPrefix, SameByBytes, AllSameByBytes, deeper_by, terms_deeper_by}
 use Rattle.aml_parse.specs.Reading.{terms_at, read_at}
 use Rattle.aml_parse.proofs.Again.{terms_again}

@@ -3,38 +3,29 @@
 -- ending with terms, that follows its steps (`then`): what a step took stands in front of what the next one takes. The
 -- reader of the terms inside is any with that law (`IsReader`).
 use Rattle.aml_parse.proofs.Common.{op, CodeFault, get_or_default, ◌≡◌, ◌≢◌, ℕ, zero, suc, ◌+◌, ◌-◌, ◌≤◌, Bool, true}
-use Rattle.aml_parse.proofs.Common.{false, eqb, List, [], ◌∷◌, ◌++◌, length}
-use Rattle.aml_parse.proofs.Common.{Option, Some, None, refl, sym, ap, ◌<◌, subst, ◌∙◌, arith, inl, inr, All, eqb-true}
-use Rattle.aml_parse.proofs.Common.{append-nil, Name, spelling}
+use Rattle.aml_parse.proofs.Common.{false, eqb, List, [], ◌∷◌, ◌++◌, length, Option, Some, None, refl, sym, ap, ◌<◌}
+use Rattle.aml_parse.proofs.Common.{subst, ◌∙◌, arith, inl, inr, All, eqb-true, append-nil, Name, spelling}
 use Rattle.aml_parse.proofs.Common.{is_name_lead, PathSet, Left, lead_reads, IsBytes, Takes, Takes-none, Takes-then}
-use Rattle.aml_parse.proofs.Common.{PartKind, Place, Position, TailKind, Row}
-use Rattle.aml_parse.proofs.Common.{row_of, has_length, takes, width_len, package_bytes, FitsWidth, Tree, connection}
-use Rattle.aml_parse.proofs.Common.{child, label, byte, word, dword, qword}
+use Rattle.aml_parse.proofs.Common.{PartKind, Place, Position, TailKind, Row, row_of, has_length, takes, width_len}
+use Rattle.aml_parse.proofs.Common.{package_bytes, FitsWidth, Tree, connection, child, label, byte, word, dword, qword}
 use Rattle.aml_parse.proofs.Common.{empty, target, buffer, opcode_bytes, slice_of, encoding, parts_encoding}
-use Rattle.aml_parse.proofs.Common.{tail_encoding, field_encoding}
-use Rattle.aml_parse.proofs.Common.{link_encoding, declared_by, HasWidth, count_in, is_guard, terms_in, tail_in}
-use Rattle.aml_parse.proofs.Common.{option_map, next_position, Setting}
-use Rattle.aml_parse.proofs.Common.{IsLawful, AreParts}
+use Rattle.aml_parse.proofs.Common.{tail_encoding, field_encoding, link_encoding, declared_by, HasWidth, count_in}
+use Rattle.aml_parse.proofs.Common.{is_guard, terms_in, tail_in, option_map, next_position, Setting, IsLawful, AreParts}
 use Rattle.aml_parse.proofs.Common.{IsTail, TailStands, Arities, StandsThere, IsOpcode, StandsAt, is_inner, unchanged}
-use Rattle.aml_parse.proofs.Common.{all_unchanged, is_if_place, if_parts}
-use Rattle.aml_parse.proofs.Common.{if_has_length, guard_place, guard_inside, takes_taker, front_length, opcode_some}
-use Rattle.aml_parse.proofs.Common.{Within, onward, inward, text_there, byte_there, slice_there, span_inside}
-use Rattle.aml_parse.proofs.Common.{end_there, offset_is}
+use Rattle.aml_parse.proofs.Common.{all_unchanged, is_if_place, if_parts, if_has_length, guard_place, guard_inside}
+use Rattle.aml_parse.proofs.Common.{takes_taker, front_length, opcode_some, Within, onward, inward, text_there}
+use Rattle.aml_parse.proofs.Common.{byte_there, slice_there, span_inside, end_there, offset_is}
 use Rattle.aml_parse.specs.Reading.{Reader, part_at, parts_at, arguments_at, terms_at, to_end_at, flat, held_inside}
-use Rattle.aml_parse.specs.Reading.{link_at, field_at, fields_at, call_at}
-use Rattle.aml_parse.specs.Reading.{refused_in_body, refused_in_run, refusal, guard_at, tail_at, takes_names, plain_at}
-use Rattle.aml_parse.specs.Reading.{packed_at, row_at, taken_at, operation_at}
-use Rattle.aml_parse.specs.Reading.{is_absent_target}
-use Rattle.aml_parse.specs.Reading.{term_at}
+use Rattle.aml_parse.specs.Reading.{link_at, field_at, fields_at, call_at, refused_in_body, refused_in_run, refusal}
+use Rattle.aml_parse.specs.Reading.{guard_at, tail_at, takes_names, plain_at, packed_at, row_at, taken_at, operation_at}
+use Rattle.aml_parse.specs.Reading.{is_absent_target, term_at}
 use Rattle.aml_parse.proofs.FlatReads.{Answers, answers, fails, then, made, chosen, known, at_offset, TookFlat}
-use Rattle.aml_parse.proofs.FlatReads.{byte_reads, little_reads, span_reads}
-use Rattle.aml_parse.proofs.FlatReads.{name_reads, segmented_reads, opcode_reads, held_reads, count_reads, text_reads}
-use Rattle.aml_parse.proofs.FlatReads.{behind_lead, named_unit_reads}
+use Rattle.aml_parse.proofs.FlatReads.{byte_reads, little_reads, span_reads, name_reads, segmented_reads, opcode_reads}
+use Rattle.aml_parse.proofs.FlatReads.{held_reads, count_reads, text_reads, behind_lead, named_unit_reads}
 use Rattle.aml_parse.proofs.FlatReads.{reserved_reads, access_reads, extended_reads}
 use Rattle.aml_parse.proofs.Leads.{IsGuarded, led_by, guard_holds}
 use Rattle.aml_parse.proofs.Took.{Reads, Took, TookTerm, TookArguments, TookTerms, TookFields, TookTail, TookPart}
-use Rattle.aml_parse.proofs.Took.{TookParts, TookLink, TookField, IsLink}
-use Rattle.aml_parse.proofs.Took.{IsReader, by_opcode, name_some}
+use Rattle.aml_parse.proofs.Took.{TookParts, TookLink, TookField, IsLink, IsReader, by_opcode, name_some}
 
 -- ---- what holds no terms
 

@@ -1,12 +1,11 @@
 -- The laws of the whole reader.
 use Rattle.aml_parse.proofs.Common.{◌≡◌, ℕ, zero, suc, ◌-◌, List, [], ◌∷◌, length, Option, Some, None, Ok, Err, refl}
-use Rattle.aml_parse.proofs.Common.{sym, ap, ◌∙◌, arith, ◌≤◌, true, inl, inr}
-use Rattle.aml_parse.proofs.Common.{CodeFault, Seg, IsBytes, Position, Trees, encodings, Arities, StandsAt, Setting}
-use Rattle.aml_parse.proofs.Common.{AreTerms, setting_of, BodiesStand}
-use Rattle.aml_parse.proofs.Common.{ReadsBody, ReadsModule, no_arguments, read_on, whole, end_there, span_inside}
+use Rattle.aml_parse.proofs.Common.{sym, ap, ◌∙◌, arith, ◌≤◌, true, inl, inr, CodeFault, Seg, IsBytes, Position, Trees}
+use Rattle.aml_parse.proofs.Common.{encodings, Arities, StandsAt, Setting, AreTerms, setting_of, BodiesStand, ReadsBody}
+use Rattle.aml_parse.proofs.Common.{ReadsModule, no_arguments, read_on, whole, end_there, span_inside, Result, ok_is}
+use Rattle.aml_parse.proofs.Common.{given_ok, given_err, ◌⊎◌}
 use Rattle.std.specs.Prelude.{IfOk, IfErr}
 use Rattle.aml_names.specs.NameReading.{Gives}
-use Rattle.aml_parse.proofs.Common.{Result, ok_is, given_ok, given_err, ◌⊎◌}
 use Rattle.std.specs.FinSet as set
 use Rattle.aml_parse.specs.Reading.{terms_at, too_deep, read_at, all_at}
 use Rattle.aml_parse.proofs.FlatReads.{Answers, fails, made, at_offset}

@@ -1,10 +1,8 @@
 -- The laws of a step through a table whose code may run.
 use Rattle.aml_parse.proofs.Common.{◌≡◌, ℕ, ◌+◌, ◌-◌, ◌≤◌, List, ◌++◌, length, take, drop, None, Ok, sym, ap, ◌∙◌}
-use Rattle.aml_parse.proofs.Common.{arith, inr}
-use Rattle.aml_parse.proofs.Common.{length-append, length-take, length-drop, take-append-drop, drop_at, IsBytes}
-use Rattle.aml_parse.proofs.Common.{IsBytes-drop}
-use Rattle.aml_parse.proofs.Common.{IsBytes-take, Position, Tree, encoding, slice_of, Arities, IsEnd, setting_of}
-use Rattle.aml_parse.proofs.Common.{ReadsStep, Within, text_there, read_on}
+use Rattle.aml_parse.proofs.Common.{arith, inr, length-append, length-take, length-drop, take-append-drop, drop_at}
+use Rattle.aml_parse.proofs.Common.{IsBytes, IsBytes-drop, IsBytes-take, Position, Tree, encoding, slice_of, Arities}
+use Rattle.aml_parse.proofs.Common.{IsEnd, setting_of, ReadsStep, Within, text_there, read_on}
 use Rattle.std.proofs.Math.Seq.{take-append-add}
 use Rattle.std.specs.FinSet as set
 use Rattle.aml_parse.specs.Reading.{read_at, step_at}

@@ -5,23 +5,22 @@ use Rattle.aml_parse.proofs.Common.{name_at, byte_at, length_at, segment_at, is_
 use Rattle.aml_parse.proofs.Common.{Tree, nothing, named, op, Trees, no_trees, tree_more, Part, Parts, no_parts, part_more, Tail, empty}
 use Rattle.aml_parse.proofs.Common.{Field, no_fields, field_more, count_in, names_declared, with_declared, is_guard}
 use Rattle.aml_parse.proofs.Common.{terms_in, tail_in, span_at, Fails, inl, inr, ok_is, Link, target, buffer}
-use Rattle.std.specs.Prelude.{flat_map}
+use Rattle.aml_parse.proofs.Common.{row_opcode, takes, append-nil, append_assoc, ◌∙◌}
+use Rattle.std.specs.Prelude.{flat_map, if◌then◌else◌}
 use Rattle.std.proofs.lemmas.List.{flat_map_more}
 use Rattle.aml_parse.specs.Reading.{opcode_at, refusal}
-use Rattle.aml_parse.proofs.Common.{row_opcode, takes, append-nil, append_assoc, ◌∙◌}
 use Rattle.aml_parse.specs.Reading.{Reader, arguments_at, parts_at, call_at, plain_at, packed_at, tail_at, guard_at, taken_at}
 use Rattle.aml_parse.specs.Reading.{operation_at, takes_names, is_absent_target, term_at, read_at}
+use Rattle.aml_parse.specs.Reading.{held, segmented_at, link_at, field_at, reserved_unit, access_unit, extended_unit, named_unit}
 use Rattle.aml_code.specs.Pieces.{Told, name, end_of_call, opcode, end_of_parts, next, field, list, end_of_list, line, end_of_line, link, end_of_link}
 use Rattle.aml_code.specs.Pieces.{pieces, items, more_items, part_pieces, parts_pieces, more_parts, tail_pieces, line_pieces, fields_pieces, field_pieces}
 use Rattle.aml_code.specs.Pieces.{part_count, link_pieces}
 use Rattle.aml_code.specs.Tree.{tree_count}
+use Rattle.aml_code.specs.Tree.{child, label, byte, word, dword, qword, text, unit, reserved, access, connection, extended}
 use Rattle.aml_code.specs.Opcodes.{row_of}
 use Rattle.aml_parse.specs.Telling.{separator}
 use Rattle.aml_code.specs.Lawful.{last_label, unit_names, plain_name}
-use Rattle.aml_code.specs.Tree.{child, label, byte, word, dword, qword, text, unit, reserved, access, connection, extended}
 use Rattle.aml_code.proofs.Answered.{answered}
-use Rattle.std.specs.Prelude.{if◌then◌else◌}
-use Rattle.aml_parse.specs.Reading.{held, segmented_at, link_at, field_at, reserved_unit, access_unit, extended_unit, named_unit}
 use Rattle.aml_parse.proofs.Loops.{onto, then_rest, then_all}
 
 -- ---- loops begin with nothing
@@ -226,10 +225,6 @@ module _ (arity : Arities) (scope : Option (List Seg)) (p : Position) (end : ℕ
       → is_absent_target p lead.0 ≡ false → Fails e (taken_at p end bs) → Fails e (read_at arity scope levels p end ls bs)
   opcode_stops levels lead e some lead_is other inside (inl none) = inl none
   opcode_stops levels lead e some lead_is other inside (inr fault) = inr (opcode_fails levels lead e some lead_is other inside fault)
-
-  pub lead_stops : (levels : ℕ) (e : CodeFault) → Fails e (byte_at end bs) → Fails e (read_at arity scope levels p end ls bs)
-  lead_stops levels e (inl none) = inl none
-  lead_stops levels e (inr fault) = inr (no_lead levels e fault)
 
 -- ---- the row of an opcode that is taken
 

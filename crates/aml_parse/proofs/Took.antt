@@ -1,17 +1,14 @@
 -- What was read from the front of the bytes, and what a reader of terms keeps.
 use Rattle.aml_parse.proofs.Common.{◌≡◌, ℕ, zero, suc, ◌+◌, ◌<◌, ◌≤◌, true, List, [], ◌∷◌, ◌++◌, length, Some, Result}
-use Rattle.aml_parse.proofs.Common.{Ok, refl, sym, subst, arith}
-use Rattle.aml_parse.proofs.Common.{length-append, CodeFault, Name, IsNameSeg, IsName, spelling, PathSet, name_lead}
-use Rattle.aml_parse.proofs.Common.{Takes, PartKind, Position, TailKind}
-use Rattle.aml_parse.proofs.Common.{package_bytes, Tree, nothing, named, op, Trees, Part, Parts, Tail, Field, unit}
-use Rattle.aml_parse.proofs.Common.{connection, Fields, Link}
-use Rattle.aml_parse.proofs.Common.{tree_count, opcode_bytes, packed, encoding, encodings, part_encoding}
-use Rattle.aml_parse.proofs.Common.{parts_encoding, tail_encoding, field_encoding}
-use Rattle.aml_parse.proofs.Common.{fields_encoding, link_encoding, after, after_all, after_tail, count_in, Setting}
-use Rattle.aml_parse.proofs.Common.{IsLawful, AreTerms, IsPart, AreParts}
-use Rattle.aml_parse.proofs.Common.{IsTail, IsField, AreFields, BodyStands, BodiesStand, TailStands, Arities}
-use Rattle.aml_parse.proofs.Common.{opcode_some, Within, Option, Seg, Row, row_of}
-use Rattle.aml_parse.proofs.Common.{PkgWidth, with_declared, names_declared, declared_by, row_opcode}
+use Rattle.aml_parse.proofs.Common.{Ok, refl, sym, subst, arith, length-append, CodeFault, Name, IsNameSeg, IsName}
+use Rattle.aml_parse.proofs.Common.{spelling, PathSet, name_lead, Takes, PartKind, Position, TailKind, package_bytes}
+use Rattle.aml_parse.proofs.Common.{Tree, nothing, named, op, Trees, Part, Parts, Tail, Field, unit, connection, Fields}
+use Rattle.aml_parse.proofs.Common.{Link, tree_count, opcode_bytes, packed, encoding, encodings, part_encoding}
+use Rattle.aml_parse.proofs.Common.{parts_encoding, tail_encoding, field_encoding, fields_encoding, link_encoding}
+use Rattle.aml_parse.proofs.Common.{after, after_all, after_tail, count_in, Setting, IsLawful, AreTerms, IsPart}
+use Rattle.aml_parse.proofs.Common.{AreParts, IsTail, IsField, AreFields, BodyStands, BodiesStand, TailStands, Arities}
+use Rattle.aml_parse.proofs.Common.{opcode_some, Within, Option, Seg, Row, row_of, PkgWidth, with_declared}
+use Rattle.aml_parse.proofs.Common.{names_declared, declared_by, row_opcode}
 use Rattle.aml_parse.specs.Reading.{Reader, takes_names}
 use Rattle.aml_parse.proofs.FlatReads.{Answers}
 use Rattle.aml_parse.proofs.Bodiless.{is_bodiless, Standing}

@@ -4,8 +4,7 @@ use Rattle.std.proofs.Common.{refl, sym, subst}
 use Rattle.aml_names.specs.declared.names.Name.{Name}
 use Rattle.aml_code.specs.declared.packages.PkgWidth.{PkgWidth}
 use Rattle.aml_code.specs.declared.rows.TailKind.{TailKind}
-use Rattle.aml_code.specs.Pieces.{Told, absent, name, end_of_call, opcode, part, tail, list}
-use Rattle.aml_code.specs.Pieces.{end_of_list, field}
+use Rattle.aml_code.specs.Pieces.{Told, absent, name, end_of_call, opcode, part, tail, list, end_of_list, field}
 use Rattle.aml_code.specs.Tree.{Tree, nothing, named, op, Part, child, Parts, Tail, terms, elements, fields, Field}
 use Rattle.aml_code.specs.Tree.{connection, buffer}
 use Rattle.aml_code.specs.View.{node_view, part_view, parts_view, field_view, trees_of, parts_from, fields_from}

@@ -1,7 +1,7 @@
 //! Parts that hold no terms.
 #![tactic(auto, unfolding(crate::specs::Reading::segmented_at))]
 
-ghost use Rattle.std.specs.Prelude.{◌≡◌, ◌<◌, ◌==◌, position, take, drop, suc, IfSome, length};
+ghost use Rattle.std.specs.Prelude.{◌≡◌, ◌<◌, ◌==◌, position, IfSome, length};
 ghost use Rattle.aml_names.specs.NameReading.{Gives};
 ghost use Rattle.aml_code.specs.Packages.{little_at};
 ghost use Rattle.aml_code.specs.Tree.{text};

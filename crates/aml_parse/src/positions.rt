@@ -5,6 +5,7 @@ ghost use Rattle.std.specs.Prelude.{◌≡◌};
 ghost use Rattle.aml_names.specs.NameReading.{Gives};
 ghost use Rattle.aml_code.specs.Lawful.{has_opcode, is_guard, next_position, tail_in, terms_in};
 ghost use Rattle.aml_code.specs.Opcodes.{row_view};
+ghost use Rattle.aml_code.specs.Tree.{Tree};
 ghost use Rattle.aml_code.specs.View.{node_view};
 ghost use Rattle.aml_parse.specs.Reading.{opcode_at, taken_at, refused_in_body, refused_in_run, refusal};
 ghost use Rattle.aml_parse.specs.Reading.{is_absent_target, Begins, takes_names, guard_at};
@@ -172,20 +173,20 @@ fn is_if(node: &Node) -> bool
     }
 }
 
-/// Where the term after a term of a list stands.
-pub fn next_position(position: Position, node: &Node) -> Position
-    ensures { result ≡ next_position position (node_view node.now) }
+/// Where the term after a term of a list stands, by whether that is an If.
+pub fn position_after(position: Position, is_if: bool) -> Position
+    ensures { (t : Tree) → is_if ≡ has_opcode 0xA0 t → result ≡ next_position position t }
 {
     match position {
         Position::BodyTerm | Position::AfterIf => {
-            if is_if(node) {
+            if is_if {
                 Position::AfterIf
             } else {
                 Position::BodyTerm
             }
         }
         Position::RunTerm | Position::RunAfterIf => {
-            if is_if(node) {
+            if is_if {
                 Position::RunAfterIf
             } else {
                 Position::RunTerm
@@ -193,6 +194,13 @@ pub fn next_position(position: Position, node: &Node) -> Position
         }
         _ => position,
     }
+}
+
+/// Where the term after a term of a list stands.
+pub fn next_position(position: Position, node: &Node) -> Position
+    ensures { result ≡ next_position position (node_view node.now) }
+{
+    position_after(position, is_if(node))
 }
 
 /// Whether a guard begins with its predicate 00. `ModuleCode` at the guard where it begins with another byte.

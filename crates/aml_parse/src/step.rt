@@ -12,7 +12,8 @@ ghost use Rattle.aml_parse.specs.Reading.{step_at};
 
 use crate::builder::Builder;
 use crate::parser::Parser;
-use crate::tell::{Here, position_after};
+use crate::positions::position_after;
+use crate::tell::Here;
 use aml_code::{Arity, CodeFault, Locals, Name, Names, NoMemory, Node, Position, Sink, offset_of};
 use std::alloc::Global;
 

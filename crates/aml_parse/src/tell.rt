@@ -4,9 +4,8 @@ ghost use Rattle.std.specs.Prelude.{◌≡◌, ◌++◌, None, Some, Option, len
 ghost use Rattle.aml_names.specs.NameReading.{Fails};
 ghost use Rattle.aml_names.specs.declared.names.Name.{Name as AnyName};
 ghost use Rattle.aml_code.specs.Opcodes.{row_of, row_view};
-ghost use Rattle.aml_code.specs.Lawful.{tail_in, terms_in, has_opcode, last_label, next_position, plain_name};
-ghost use Rattle.aml_code.specs.Lawful.{unit_names};
-ghost use Rattle.aml_code.specs.Tree.{Tree, tree_count, child, no_parts, part_more, no_fields, field_more};
+ghost use Rattle.aml_code.specs.Lawful.{tail_in, terms_in, has_opcode, last_label, plain_name, unit_names};
+ghost use Rattle.aml_code.specs.Tree.{tree_count, child, no_parts, part_more, no_fields, field_more};
 ghost use Rattle.aml_code.specs.View.{field_view};
 ghost use Rattle.aml_code.specs.Pieces.{pieces, items, part_pieces, parts_pieces, tail_pieces, line_pieces};
 ghost use Rattle.aml_code.specs.Pieces.{fields_pieces, field_pieces, link_pieces, part_count, deeper};
@@ -17,7 +16,9 @@ ghost use Rattle.aml_parse.specs.Telling.{read_by, Tells, TellsAll, AreUnits, se
 use crate::packages::package_of;
 use crate::parser::Parser;
 use crate::plain::tell_flat;
-use crate::positions::{Lead, guard_of, is_guard, lead_of, row_of, tail_in, takes_names, terms_in};
+use crate::positions::{
+    Lead, guard_of, is_guard, lead_of, position_after, row_of, tail_in, takes_names, terms_in,
+};
 use crate::short::tell_short;
 use crate::units::{
     access_unit_of, extended_unit_of, named_link_of, named_unit_of, reserved_unit_of,
@@ -73,29 +74,6 @@ struct Packed<'r> {
     at: u32,
     row: &'r OpRow,
     tail: TailKind,
-}
-
-/// Where the term after a term of a list stands, by whether that is an If.
-pub fn position_after(position: Position, is_if: bool) -> Position
-    ensures { (t : Tree) → is_if ≡ has_opcode 0xA0 t → result ≡ next_position position t }
-{
-    match position {
-        Position::BodyTerm | Position::AfterIf => {
-            if is_if {
-                Position::AfterIf
-            } else {
-                Position::BodyTerm
-            }
-        }
-        Position::RunTerm | Position::RunAfterIf => {
-            if is_if {
-                Position::RunAfterIf
-            } else {
-                Position::RunTerm
-            }
-        }
-        _ => position,
-    }
 }
 
 /// Where a part of this kind stands, if it is a term.

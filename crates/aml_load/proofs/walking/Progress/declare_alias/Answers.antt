@@ -1,4 +1,4 @@
-use Rattle.std.proofs.Common.{List, Some, None, sym, subst, ap, ◌∙◌}
+use Rattle.std.proofs.Common.{List, Some, None, sym, subst, ap, ◌∙◌, ◌∷◌, []}
 use Rattle.aml_names.specs.declared.segments.Seg.{Seg}
 use Rattle.std.proofs.lemmas.Option.{get_or_from_slice_get}
 use Rattle.aml_namespace.specs.declared.kinds.Kind.TheVariants.{Alias}
@@ -10,7 +10,6 @@ use Rattle.aml_load.specs.Loading.{parent_of, sure_with}
 use Rattle.aml_load.specs.Walking.{at_site, sure_of, Walked}
 use Rattle.aml_load.proofs.Inside.{same_site, same_below}
 use Rattle.aml_load.proofs.walking.Progress.declare_alias.Goals as goal
-use Rattle.std.proofs.Common.{◌∷◌, []}
 
 pub declare_of-requires-clause-target : goal.declare_of-requires-clause-target
 declare_of-requires-clause-target c = c.in_ok-target.ensures.among

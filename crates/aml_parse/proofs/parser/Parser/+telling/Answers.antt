@@ -1,7 +1,8 @@
-use Rattle.aml_parse.proofs.Common.{rules, PartKind, TailKind, ◌≡◌, ◌+◌, ◌-◌, ◌++◌, length, drop, get_or, [], ◌∷◌, inr, Some, None, Ok}
-use Rattle.aml_parse.proofs.Common.{ap, sym, subst, refl, ◌∙◌, arith, add-one, drop-cons, drop_all, Tree, Part, Field}
-use Rattle.aml_parse.proofs.Common.{row_view, no_trees, tree_more, no_parts, part_more, no_fields, field_more, nothing, named, op, empty}
-use Rattle.aml_parse.proofs.Common.{terms, elements, fields, child, connection, buffer, append-nil, length-append}
+use Rattle.aml_parse.proofs.Common.{rules, PartKind, TailKind, ◌≡◌, ◌+◌, ◌-◌, ◌++◌, length, drop, get_or, [], ◌∷◌, inr}
+use Rattle.aml_parse.proofs.Common.{Some, None, Ok, ap, sym, subst, refl, ◌∙◌, arith, add-one, drop-cons, drop_all}
+use Rattle.aml_parse.proofs.Common.{Tree, Part, Field, row_view, no_trees, tree_more, no_parts, part_more, no_fields}
+use Rattle.aml_parse.proofs.Common.{field_more, nothing, named, op, empty, terms, elements, fields, child, connection}
+use Rattle.aml_parse.proofs.Common.{buffer, append-nil, length-append, Position, field_view, tail_in}
 use Rattle.aml_code.specs.Tree.{bytes}
 use Rattle.aml_code.proofs.Views.{view-field-Connection}
 use Rattle.std.specs.Prelude.{map}
@@ -9,7 +10,6 @@ use Rattle.aml_code.specs.Lawful.{last_label, plain_name, unit_names}
 use Rattle.aml_code.specs.Pieces.{Told, deeper, pieces, items, field_pieces, line_pieces, fields_pieces}
 use Rattle.aml_parse.specs.Reading.{field_at, body_to}
 use Rattle.aml_parse.specs.Telling.{read_by}
-use Rattle.aml_parse.proofs.Common.{Position}
 use Rattle.aml_parse.proofs.Opened.{opcode_read}
 use Rattle.aml_parse.proofs.Loops.{onto, parts_go_on, parts_fails, parts_end, arguments_go_on, arguments_fails, arguments_end}
 use Rattle.aml_parse.proofs.Loops.{go_on, fails, runs_out, done}
@@ -19,7 +19,6 @@ use Rattle.aml_parse.proofs.TellLaws.{label_one, units_one, taken_listed, IsOneF
 use Rattle.aml_parse.proofs.TellLaws.{call_is, plain_is, packed_is, no_lead, name_read, nothing_read, opcode_stops}
 use Rattle.aml_parse.proofs.TellLaws.{reserved_read, access_read, extended_read, named_read, link_name, link_buffer, connection_read}
 use Rattle.aml_parse.proofs.ShortLaws.{none_read}
-use Rattle.aml_parse.proofs.Common.{field_view, tail_in}
 use Rattle.aml_code.specs.View.{link_view}
 use Rattle.aml_parse.proofs.parser.Parser.+telling.Goals as goal
 use Rattle.aml_parse.proofs.parser.Parser.+telling.Goals.{tell_field-in-0+in_ok-reserved_unit_of-in-0}
