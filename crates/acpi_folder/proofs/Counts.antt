@@ -2,9 +2,8 @@
 -- the backslash, and then dots. What is read and what is left are the text, and a path that is printed so goes on with
 -- what is left; so there is none where no segment follows.
 use Rattle.acpi_folder.proofs.Common.{◌≡◌, ℕ, ◌-◌, ◌<◌, ◌≤◌, true, List, [], ◌∷◌, ◌++◌, length, take, drop, Ok, refl}
-use Rattle.acpi_folder.proofs.Common.{sym, ap, ◌∙◌, append_assoc, inl, inr}
-use Rattle.acpi_folder.proofs.Common.{arith, get_or, append-nil, flat_map, encode_utf8, drop_at, take_all}
-use Rattle.acpi_folder.proofs.Common.{nil_from_length}
+use Rattle.acpi_folder.proofs.Common.{sym, ap, ◌∙◌, append_assoc, inl, inr, arith, get_or, append-nil, flat_map}
+use Rattle.acpi_folder.proofs.Common.{encode_utf8, drop_at, take_all, nil_from_length}
 use Rattle.std.proofs.lemmas.Str.{encode_ascii}
 use Rattle.std.proofs.lemmas.List.Concat.{flat_map-append}
 use Rattle.std.proofs.lemmas.Bool.Decides.{nat_tests}
@@ -12,10 +11,9 @@ use Rattle.aml_names.specs.declared.segments.Seg.{Seg}
 use Rattle.aml_names.specs.declared.faults.CodeFault.{CodeFault}
 use Rattle.aml_names.specs.declared.faults.CodeFault.TheVariants as faults
 use Rattle.aml_names.specs.Names.{is_lead_char, is_name_char, IsNameSeg}
-use Rattle.aml_names.proofs.NameLaws.{AreNameSegs}
+use Rattle.aml_names.proofs.NameLaws.{AreNameSegs, segment_takes, segment_again}
 use Rattle.aml_names.specs.NameReading.{segment_at, Fails}
 use Rattle.aml_names.specs.Paths.{segment_text, path_text}
-use Rattle.aml_names.proofs.NameLaws.{segment_takes, segment_again}
 use Rattle.aml_names.proofs.StepLaws.{IsBytes, IsBytes-drop, IsBytes-take, Takes}
 use Rattle.acpi_folder.specs.Externals.{IsPrinted, BeginsWith, BeginsWithNone}
 

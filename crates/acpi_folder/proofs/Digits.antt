@@ -1,7 +1,6 @@
 -- Numbers in hexadecimal digits.
 use Rattle.acpi_folder.proofs.Common.{◌≡◌, ℕ, zero, suc, ◌+◌, ◌*◌, ◌^◌, ◌<◌, ◌≤◌, List, [], ◌∷◌, length, take, get_or}
-use Rattle.acpi_folder.proofs.Common.{ap, sym, ◌∙◌, arith, lit<}
-use Rattle.acpi_folder.proofs.Common.{length-take-le, digit_value, AllDigits, digits_value}
+use Rattle.acpi_folder.proofs.Common.{ap, sym, ◌∙◌, arith, lit<, length-take-le, digit_value, AllDigits, digits_value}
 use Rattle.std.proofs.lemmas.Int.Digits.{digits_value_more, digits_more, digits_value-lt}
 use Rattle.std.proofs.Math.Nat.{pow-le-pow_right}
 

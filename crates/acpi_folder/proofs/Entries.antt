@@ -1,7 +1,6 @@
 -- What lines say, over lists of them.
 use Rattle.acpi_folder.proofs.Common.{◌≡◌, ℕ, Bool, List, [], ◌∷◌, Option, Some, None, map, option_map, find, refl, sym}
-use Rattle.acpi_folder.proofs.Common.{ap, ◌∙◌, list_any, Line, address_in}
-use Rattle.acpi_folder.proofs.Common.{shown_by, entry_of, repeats}
+use Rattle.acpi_folder.proofs.Common.{ap, ◌∙◌, list_any, Line, address_in, shown_by, entry_of, repeats}
 use Rattle.std.specs.Str.{bytes_eq}
 use Rattle.acpi_tables.proofs.Values.{find-map}
 

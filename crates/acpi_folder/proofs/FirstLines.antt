@@ -1,8 +1,7 @@
 -- The first line of a text: the bytes up to the one that ends it, or all of them where none does.
 use Rattle.acpi_folder.proofs.Common.{◌≤◌, Some, None, ltb, ◌≡◌, ℕ, suc, ◌+◌, ◌<◌, Bool, true, false, not, List, []}
-use Rattle.acpi_folder.proofs.Common.{◌∷◌, length, take, drop, refl, ap, arith}
-use Rattle.acpi_folder.proofs.Common.{cond, eqb, before_first, after_first, onto_first, position, position_or_len}
-use Rattle.acpi_folder.proofs.Common.{take_all, drop_all, cond_some, lines_of}
+use Rattle.acpi_folder.proofs.Common.{◌∷◌, length, take, drop, refl, ap, arith, cond, eqb, before_first, after_first}
+use Rattle.acpi_folder.proofs.Common.{onto_first, position, position_or_len, take_all, drop_all, cond_some, lines_of}
 use Rattle.acpi_folder.proofs.Common.{is_line_end}
 use Rattle.std.proofs.lemmas.Bool.{ltb-false}
 

@@ -2,13 +2,11 @@
 -- each call tells of the folder as it was at the beginning. The loop over the files comes first, then the listing, what
 -- stops the gathering, and at the end the dumps that names, files and addresses make.
 use Rattle.acpi_folder.proofs.Common.{◌≡◌, ℕ, ◌+◌, ◌<◌, ◌≤◌, true, false, not, List, [], ◌∷◌, ◌++◌, length, take, map}
-use Rattle.acpi_folder.proofs.Common.{get_or, refl, ap, sym, ◌∙◌, arith, cond}
-use Rattle.acpi_folder.proofs.Common.{filter, string_bytes, string_cmp, IsPermutation, IsSorted, String, Vec, Global}
-use Rattle.acpi_folder.proofs.Common.{Option, None, Bool, ◌⊎◌, inl, inr, zip}
-use Rattle.acpi_folder.proofs.Common.{get_or-map, length-map, map-append, all_zip_more, length_all_zip, list_any}
-use Rattle.acpi_folder.proofs.Common.{MapFault, RefusesMap, address_in, entry_of}
-use Rattle.acpi_folder.proofs.Common.{lines_of, Answers, IsWithin, Reads, AreRead, IsListing, IsMapText, AreAddresses}
-use Rattle.acpi_folder.proofs.Common.{AreGathered, StopsAtFile, LacksMap}
+use Rattle.acpi_folder.proofs.Common.{get_or, refl, ap, sym, ◌∙◌, arith, cond, filter, string_bytes, string_cmp}
+use Rattle.acpi_folder.proofs.Common.{IsPermutation, IsSorted, String, Vec, Global, Option, None, Bool, ◌⊎◌, inl, inr}
+use Rattle.acpi_folder.proofs.Common.{zip, get_or-map, length-map, map-append, all_zip_more, length_all_zip, list_any}
+use Rattle.acpi_folder.proofs.Common.{MapFault, RefusesMap, address_in, entry_of, lines_of, Answers, IsWithin, Reads}
+use Rattle.acpi_folder.proofs.Common.{AreRead, IsListing, IsMapText, AreAddresses, AreGathered, StopsAtFile, LacksMap}
 use Rattle.acpi_folder.proofs.Common.{RefusesFolder, FailsAt, StopsBy, FailsAtMap, is_map, map_name, read_limit}
 use Rattle.acpi_folder.proofs.Common.{dump_name, dump_bytes}
 use Rattle.std.proofs.lemmas.List.Sorted.{IsPermutation-map}

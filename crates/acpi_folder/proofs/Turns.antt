@@ -1,9 +1,8 @@
 -- The lines of a map, one after another: what is left behind so many lines begins with the next one. Each line that is
 -- read is a map's, and the first that isn't refuses the text.
 use Rattle.acpi_folder.proofs.Common.{◌≡◌, ℕ, ◌+◌, ◌-◌, ◌<◌, ◌≤◌, true, false, List, [], ◌∷◌, ◌++◌, length, take, drop}
-use Rattle.acpi_folder.proofs.Common.{map, get_or, refl, ap, ◌∙◌, arith, Some}
-use Rattle.acpi_folder.proofs.Common.{length-drop, below_more, option_map, list_any, find, take_more, drop_more}
-use Rattle.acpi_folder.proofs.Common.{map-append, Line, MapFault, Entry, entry_of}
+use Rattle.acpi_folder.proofs.Common.{map, get_or, refl, ap, ◌∙◌, arith, Some, length-drop, below_more, option_map}
+use Rattle.acpi_folder.proofs.Common.{list_any, find, take_more, drop_more, map-append, Line, MapFault, Entry, entry_of}
 use Rattle.acpi_folder.proofs.Common.{shown_by, lines_of, repeats, is_listed, IsLine, IsMapped, HoldsTo, HasFault}
 use Rattle.acpi_folder.proofs.Common.{RefusesMap, numbered_by, address_in}
 use Rattle.std.specs.Str.{bytes_eq}

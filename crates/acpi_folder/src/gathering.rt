@@ -5,8 +5,7 @@ ghost use Rattle.std.specs.Prelude.{◌≡◌, ◌⊎◌, true, not, None, map, 
 ghost use Rattle.std.specs.Prelude.{string_cmp, IsPermutation, IsSorted, IfOk, IfErr};
 ghost use Rattle.std.specs.List.{list_any};
 ghost use Rattle.acpi_folder.specs.declared.gathering.GatherFault.TheVariants.{NoMemory};
-ghost use Rattle.acpi_folder.specs.Map.{HoldsMap, addresses_of};
-ghost use Rattle.acpi_folder.specs.Folders.{Answers, IsWithin, Reads, IsListing, AreRead, AreAddresses};
+ghost use Rattle.acpi_folder.specs.Folders.{IsWithin, Reads, IsListing, AreRead, AreAddresses};
 ghost use Rattle.acpi_folder.specs.Folders.{AreGathered, RefusesFolder, StopsBy, FailsAt, FailsAtMap};
 ghost use Rattle.acpi_folder.specs.Folders.{is_map as is_map_name, read_limit};
 

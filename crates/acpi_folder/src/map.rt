@@ -7,8 +7,7 @@ ghost use Rattle.std.specs.List.{list_any};
 ghost use Rattle.std.specs.Str.{bytes_eq};
 ghost use Rattle.std.specs.Str.Parse.{AllDigits, digits_value};
 ghost use Rattle.acpi_folder.specs.declared.map.MapFault.TheVariants.{NoMemory};
-ghost use Rattle.acpi_folder.specs.Map.{lines_of, IsLine};
-ghost use Rattle.acpi_folder.specs.Map.{entry_of, shown_by, is_listed, repeats, address_in};
+ghost use Rattle.acpi_folder.specs.Map.{lines_of, IsLine, entry_of, shown_by, is_listed, repeats, address_in};
 ghost use Rattle.acpi_folder.specs.Map.{addresses_of, HoldsMap, HasFault, RefusesMap, numbered_by};
 
 use crate::lines::first_line;

@@ -1,10 +1,9 @@
 -- The addresses that an XSDT or an RSDT lists.
 use Rattle.acpi_tables.proofs.Common.{◌≡◌, ℕ, ◌-◌, ◌%◌, ◌≤◌, ◌<◌, List, length, Some, None, refl, rules, tests, arith}
-use Rattle.acpi_tables.proofs.Common.{Bool, true, false, ◌&&◌}
-use Rattle.acpi_tables.proofs.Common.{nat_le, nat_eq, zero-add, slice_get, if◌then◌else◌, nat_tests, slice_get-get_or}
-use Rattle.acpi_tables.proofs.Common.{slice_get_past}
-use Rattle.acpi_tables.proofs.Common.{get_or-map-range_with_len, length-map-range_with_len, HoldsAddresses}
-use Rattle.acpi_tables.proofs.Common.{addresses_of, address_at, address_in, address_count}
+use Rattle.acpi_tables.proofs.Common.{Bool, true, false, ◌&&◌, nat_le, nat_eq, zero-add, slice_get, if◌then◌else◌}
+use Rattle.acpi_tables.proofs.Common.{nat_tests, slice_get-get_or, slice_get_past, get_or-map-range_with_len}
+use Rattle.acpi_tables.proofs.Common.{length-map-range_with_len, HoldsAddresses, addresses_of, address_at, address_in}
+use Rattle.acpi_tables.proofs.Common.{address_count}
 
 module _ (width : ℕ) (table : List ℕ) (index : ℕ) where
   pub address_in-inside : HoldsAddresses width table → index < address_count width table

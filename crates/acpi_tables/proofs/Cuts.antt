@@ -1,17 +1,15 @@
 -- The records of a MADT. A walk over whole records takes them one by one. Where it meets none more they have ended: at
 -- the table's end, or where a broken one begins. So a table that is read has no fault.
 use Rattle.acpi_tables.proofs.Common.{◌≡◌, ℕ, zero, suc, ◌+◌, ◌-◌, ◌<◌, ◌≤◌, Bool, true, false, cond, List, [], ◌∷◌}
-use Rattle.acpi_tables.proofs.Common.{◌++◌, length, map, refl, sym, ap, ◌∙◌}
-use Rattle.acpi_tables.proofs.Common.{arith, append_assoc, length-append, append-nil, nat_tests, map-append, concat}
-use Rattle.acpi_tables.proofs.Common.{number_at}
-use Rattle.acpi_tables.proofs.Common.{little_endian, take, drop, length-drop}
+use Rattle.acpi_tables.proofs.Common.{◌++◌, length, map, refl, sym, ap, ◌∙◌, arith, append_assoc, length-append}
+use Rattle.acpi_tables.proofs.Common.{append-nil, nat_tests, map-append, concat, number_at, little_endian, take, drop}
+use Rattle.acpi_tables.proofs.Common.{length-drop}
 use Rattle.std.proofs.Math.ListN.{drop_of_length-le}
 use Rattle.std.proofs.lemmas.List.{drop-drop, drop_at, take_at, take-append-drop}
 use Rattle.std.proofs.lemmas.List.Folds.{concat-append}
 use Rattle.std.specs.List.{AllByRecursion}
 use Rattle.acpi_tables.specs.Madt.{HoldsRecord, HoldsMadt, BreaksAt, is_whole, record_bytes_at, record_end}
-use Rattle.acpi_tables.specs.Madt.{records_from, records_of}
-use Rattle.acpi_tables.specs.Madt.{meaning_of, said, RefusesMadt}
+use Rattle.acpi_tables.specs.Madt.{records_from, records_of, meaning_of, said, RefusesMadt}
 use Rattle.acpi_tables.specs.declared.madt.MadtRecord.{MadtRecord}
 use Rattle.acpi_tables.specs.declared.faults.Bad.{Bad}
 use Rattle.acpi_tables.specs.declared.faults.Bad.TheVariants.{Short, MadtRecord as BadRecord}

@@ -1,10 +1,9 @@
 -- The digits that end a name's stem, and the stem itself.
 use Rattle.acpi_tables.proofs.Common.{◌≡◌, ℕ, zero, suc, ◌+◌, ◌-◌, ◌*◌, ◌^◌, ◌<◌, ◌≤◌, Bool, true, false, List, [], ◌∷◌}
-use Rattle.acpi_tables.proofs.Common.{length, take, reverse, Some, None}
-use Rattle.acpi_tables.proofs.Common.{take_while, get_or, cond, ltb, refl, sym, ap, ◌∙◌, arith, ltb-false}
-use Rattle.acpi_tables.proofs.Common.{length-reverse, reverse-append, take_more}
-use Rattle.acpi_tables.proofs.Common.{take_while-cons, cond_some, nat_tests, before_last, position, position_or_len}
-use Rattle.acpi_tables.proofs.Common.{digits_value, nat_eq}
+use Rattle.acpi_tables.proofs.Common.{length, take, reverse, Some, None, take_while, get_or, cond, ltb, refl, sym, ap}
+use Rattle.acpi_tables.proofs.Common.{◌∙◌, arith, ltb-false, length-reverse, reverse-append, take_more, take_while-cons}
+use Rattle.acpi_tables.proofs.Common.{cond_some, nat_tests, before_last, position, position_or_len, digits_value}
+use Rattle.acpi_tables.proofs.Common.{nat_eq}
 use Rattle.std.proofs.Math.Nat.{pow-suc, pow-le-pow_right, one-le-pow}
 use Rattle.std.proofs.lemmas.Int.Digits.{digits_value_push}
 use Rattle.std.proofs.Math.Seq.{take-length}

@@ -1,10 +1,8 @@
 -- The dumps at some addresses, each where it stands first: one address more adds the dump that stands there, if there
 -- is one and it isn't among them.
 use Rattle.acpi_tables.proofs.Common.{◌≡◌, ℕ, ◌+◌, Bool, List, [], ◌∷◌, ◌++◌, map, cond, filter_map, nat_eq, Option}
-use Rattle.acpi_tables.proofs.Common.{Some, None, sym, ap, ◌∙◌, zero-add}
-use Rattle.acpi_tables.proofs.Common.{list_any, cons_option, fold, range_with_len, filter_map-append}
-use Rattle.acpi_tables.proofs.Common.{map-range_with_len_more, fold-append, Dump}
-use Rattle.acpi_tables.proofs.Common.{with_more, dump_at}
+use Rattle.acpi_tables.proofs.Common.{Some, None, sym, ap, ◌∙◌, zero-add, list_any, cons_option, fold, range_with_len}
+use Rattle.acpi_tables.proofs.Common.{filter_map-append, map-range_with_len_more, fold-append, Dump, with_more, dump_at}
 
 abbrev pub listed_in : List Dump → List ℕ → List ℕ
 listed_in dumps addresses = fold with_more [] (filter_map (dump_at dumps) addresses)

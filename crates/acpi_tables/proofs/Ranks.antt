@@ -2,10 +2,9 @@
 use Rattle.acpi_tables.proofs.Common.{◌≡◌, ℕ, ◌<◌, ◌≤◌, Bool, List, [], ◌∷◌, length, get_or, refl, arith, is_lt, Dump}
 use Rattle.acpi_tables.proofs.Common.{name_of, ending_number, rank_cmp}
 use Rattle.std.proofs.lemmas.Cmp.{then_total, on_total, nat_cmp_total}
-use Rattle.std.specs.Cmp.{IsTotalOrder}
+use Rattle.std.specs.Cmp.{IsTotalOrder, IsStrictWeakOrder}
 use Rattle.std.specs.Cmp.Lexicographic.{on_texts}
 use Rattle.std.proofs.lemmas.List.MinMax.{ranks_by}
-use Rattle.std.specs.Cmp.{IsStrictWeakOrder}
 
 pub rank_total : (dumps : List Dump) → IsTotalOrder (rank_cmp dumps)
 rank_total dumps = then_total (on_total (λ index. ending_number (name_of dumps index)) nat_cmp_total) (then_total (on_texts (name_of dumps)) nat_cmp_total)

@@ -1,13 +1,11 @@
 -- What holds of a dump that is taken, by its signature. What a search for a signature or an address has found has the
 -- signature.
 use Rattle.acpi_tables.proofs.Common.{◌≡◌, ℕ, ◌<◌, ◌≤◌, ◌⊎◌, inl, inr, Bool, true, false, List, ◌++◌, length, drop}
-use Rattle.acpi_tables.proofs.Common.{codes, cond, Some, find, ltb, nat_eq}
-use Rattle.acpi_tables.proofs.Common.{refl, sym, ap, ◌∙◌, arith, rules, tests, length-append}
-use Rattle.acpi_tables.proofs.Common.{passes_at_first, option_and_then_some, same_Some, then_some}
+use Rattle.acpi_tables.proofs.Common.{codes, cond, Some, find, ltb, nat_eq, refl, sym, ap, ◌∙◌, arith, rules, tests}
+use Rattle.acpi_tables.proofs.Common.{length-append, passes_at_first, option_and_then_some, same_Some, then_some}
 use Rattle.acpi_tables.proofs.Common.{slice_get_within, get_or_from_slice_get, Dump, begins_with, HoldsTable, table_of}
-use Rattle.acpi_tables.proofs.Common.{HoldsRoot, HoldsAddresses}
-use Rattle.acpi_tables.proofs.Common.{AreTaken, bytes_of, has_signature, dump_at, signed_at, list_of}
-use Rattle.acpi_tables.proofs.Common.{nat_le, number_at, ◌&&◌}
+use Rattle.acpi_tables.proofs.Common.{HoldsRoot, HoldsAddresses, AreTaken, bytes_of, has_signature, dump_at, signed_at}
+use Rattle.acpi_tables.proofs.Common.{list_of, nat_le, number_at, ◌&&◌}
 use Rattle.std.specs.Prelude.{not}
 use Rattle.acpi_tables.specs.Header.{revision_of}
 use Rattle.std.proofs.lemmas.List.Folds.{find_at}

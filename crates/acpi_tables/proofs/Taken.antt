@@ -2,9 +2,9 @@
 -- a signature by computing, whatever follows it.
 use Rattle.acpi_tables.proofs.Common.{◌≡◌, ℕ, ◌≤◌, Bool, true, false, List, ◌++◌, length, drop, codes, cond}
 use Rattle.acpi_tables.proofs.Common.{refl, ap, subst, ◌∙◌, Decides-eqb, eqb-true, begins_with}
+use Rattle.acpi_tables.proofs.Common.{arith, inl, inr, nat_eq, sym, table_of, true≢false}
 use Rattle.std.proofs.lemmas.Slice.Eq.{starts_is}
 use Rattle.std.specs.Prelude.{◌||◌}
-use Rattle.acpi_tables.proofs.Common.{arith, inl, inr, nat_eq, sym, table_of, true≢false}
 use Rattle.acpi_tables.proofs.Cuts.{whole_not_refused}
 use Rattle.acpi_tables.specs.declared.faults.Bad.{Bad}
 use Rattle.acpi_tables.specs.Dumps.{RefusesContent, RefusesDump}

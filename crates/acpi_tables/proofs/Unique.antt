@@ -1,9 +1,8 @@
 -- There is at most one order. By names: two sorted lists in which each number stands as often are the same, by a total
 -- order, and the SSDTs are sorted by one. By the chain: each step of it has one end.
 use Rattle.acpi_tables.proofs.Common.{◌≡◌, ℕ, suc, ◌+◌, ◌<◌, Bool, true, false, List, [], ◌∷◌, length, get_or, nat_eq}
-use Rattle.acpi_tables.proofs.Common.{cond, filter, MatchBool, refl, sym, ap}
-use Rattle.acpi_tables.proofs.Common.{◌∙◌, arith, count_by, ordering_then, ordering_reverse, is_lt, nat_cmp, true≢false}
-use Rattle.acpi_tables.proofs.Common.{eqb-true, nat_tests, All-filter}
+use Rattle.acpi_tables.proofs.Common.{cond, filter, MatchBool, refl, sym, ap, ◌∙◌, arith, count_by, ordering_then}
+use Rattle.acpi_tables.proofs.Common.{ordering_reverse, is_lt, nat_cmp, true≢false, eqb-true, nat_tests, All-filter}
 use Rattle.acpi_tables.proofs.Common.{filter_passes, sum_by-cons, length-filter, Dump, Ok, rank_cmp, chain_of}
 use Rattle.acpi_tables.proofs.Common.{IsChained, IsNamed}
 use Rattle.std.specs.Prelude.{Result}

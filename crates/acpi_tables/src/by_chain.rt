@@ -1,6 +1,6 @@
 //! The order of the definition blocks where addresses lead from the RSDP over the XSDT or RSDT and the FADT to a DSDT.
 ghost use Rattle.std.specs.Prelude.{◌≡◌, ◌⊎◌, ◌<◌, ◌≤◌, None, Err, true, codes, filter, find, length, IfOk, IfErr};
-ghost use Rattle.std.specs.Prelude.{◌∷◌, [], filter_map, if◌then◌else◌};
+ghost use Rattle.std.specs.Prelude.{[], filter_map, if◌then◌else◌};
 ghost use Rattle.std.specs.List.{fold, range_with_len};
 ghost use Rattle.std.specs.Option.{option_map, unwrap_or};
 ghost use Rattle.acpi_tables.specs.Header.{HoldsRoot, HoldsTable, table_of, HoldsAddresses};

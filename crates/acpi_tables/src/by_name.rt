@@ -1,11 +1,10 @@
 //! The order of the definition blocks where no addresses are known, and the names of the files decide.
 ghost use Rattle.std.specs.Prelude.{◌≡◌, ◌⊎◌, ◌<◌, ◌^◌, None, Err, codes, IfOk, IfErr, IfSome};
-ghost use Rattle.std.specs.Prelude.{IsPermutation, IsSorted, length, nat_eq, position, reverse, take, take_while};
+ghost use Rattle.std.specs.Prelude.{length, nat_eq, position, reverse, take, take_while};
 ghost use Rattle.std.specs.Char.{is_ascii_digit};
 ghost use Rattle.std.specs.List.{before_last};
 ghost use Rattle.std.specs.Str.Parse.{digits_value};
-ghost use Rattle.acpi_tables.specs.Order.{IsNamed, only_dsdt, indexes_with, name_of, rank_cmp};
-ghost use Rattle.acpi_tables.specs.Order.{stem_of, ending_number};
+ghost use Rattle.acpi_tables.specs.Order.{IsNamed, only_dsdt, indexes_with, name_of, rank_cmp, stem_of, ending_number};
 ghost use Rattle.acpi_tables.specs.declared.faults.Bad.TheVariants.{NoMemory};
 
 use crate::dump::Dump;

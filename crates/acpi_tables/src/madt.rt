@@ -1,6 +1,5 @@
 //! The table of interrupt controllers (ACPI 6.5, section 5.2.12).
-ghost use Rattle.std.specs.Prelude.{◌≡◌, ◌⊎◌, ◌↔◌, ◌+◌, ◌<◌, ◌≤◌, ℕ, length, map};
-ghost use Rattle.std.specs.Prelude.{IsSome, IfSome, IfOk, IfErr, OnOk};
+ghost use Rattle.std.specs.Prelude.{◌≡◌, ◌⊎◌, ◌↔◌, ◌+◌, ◌<◌, ◌≤◌, length, map, IsSome, IfSome, IfOk, IfErr, OnOk};
 ghost use Rattle.acpi_tables.specs.Bytes.{number_at};
 ghost use Rattle.acpi_tables.specs.Madt.{HoldsRecord, HoldsMadt, meaning_of, said};
 ghost use Rattle.acpi_tables.specs.Madt.{record_bytes_at, record_end, records_of, RefusesMadt};

@@ -1,7 +1,7 @@
 //! The order in which the definition blocks of a set of tables are loaded.
 #![tactic(auto, using(crate::proofs::Places::inside))]
 
-ghost use Rattle.std.specs.Prelude.{◌≡◌, ◌⊎◌, ◌<◌, ◌≤◌, ◌∷◌, ℕ, List, None, true, MatchBool, IfOk, IfErr, OnOk, length};
+ghost use Rattle.std.specs.Prelude.{◌≡◌, ◌⊎◌, ◌<◌, ◌∷◌, ℕ, List, None, true, MatchBool, IfOk, IfErr, OnOk};
 ghost use Rattle.acpi_tables.specs.declared.faults.Bad.TheVariants.{NoMemory};
 ghost use Rattle.acpi_tables.specs.declared.faults.TableFault.{TableFault};
 

@@ -1,7 +1,7 @@
 //! The first part of a listing: the lines of all dumps.
 #![tactic(auto, using(text_writer::proofs::PrintLaws::straight))]
 
-ghost use Rattle.std.specs.Prelude.{◌≡◌, true};
+ghost use Rattle.std.specs.Prelude.{true};
 ghost use Rattle.text_writer.specs.Prints.{Prints};
 ghost use Rattle.acpi_tables.specs.Dumps.{HoldsDump, HoldsShape, HoldsContent};
 ghost use Rattle.acpi_tables.specs.Order.{AreTaken};

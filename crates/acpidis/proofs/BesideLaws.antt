@@ -1,8 +1,7 @@
 -- What workers make of a set side by side is its load and the texts of its tables.
 use Rattle.acpidis.proofs.Common.{◌≡◌, ℕ, suc, ◌+◌, List, [], ◌∷◌, map, length, Some, slice_get, get_or, arith, refl, sym, ap, ◌∙◌, length-map}
-use Rattle.acpidis.proofs.Common.{AllZip, IfSome, Dump, Options, Order, TableSet, Table, IsOrder, table_codes, codes_in}
-use Rattle.acpidis.proofs.Common.{indexes_in}
-use Rattle.acpidis.specs.Beside.{IsLoaded, IsPart, IsTextOf, text_in}
+use Rattle.acpidis.proofs.Common.{AllZip, IfSome, Dump, Options, Table, table_codes}
+use Rattle.acpidis.specs.Beside.{IsPart, IsTextOf, text_in}
 use Rattle.acpidis.specs.declared.beside.Part.{Part}
 use Rattle.acpidis.specs.declared.beside.Part.TheVariants as parts
 
@@ -37,12 +36,3 @@ module _ (dumps : List Dump) (options : Options) where
       let is : all ≡ first ∷ ps = sym same ∙ begins in
       apart (table_codes tables) first ps (ap length (sym is) ∙ long ∙ ap (λ n. n + 1) (sym (length-map tables (λ (t : Table). t.code.now))))
       (λ n d at. each n d (ap (λ xs. slice_get xs n) is ∙ at))
-
-  -- the tables of one order have one AML
-  pub codes_so : (order : Order) (codes : List (List ℕ)) (x : TableSet)
-      → ((dsdt : ℕ) (ssdts : List ℕ) → IsOrder dumps options.any_sum dsdt ssdts → (dsdt ≡ order.dsdt) × (ssdts ≡ order.ssdts.items))
-      → codes ≡ codes_in dumps (indexes_in order) → IsLoaded dumps options x → codes ≡ table_codes x.tables.items
-  codes_so order codes x only are (trees, from) =
-      let k = from.sound.0 in
-      let same = only k.dsdt k.ssdts from.sound.1.order in
-      are ∙ sym (from.sound.2.holds.tables ∙ (λ i. codes_in dumps (same.0 i ∷ same.1 i)))

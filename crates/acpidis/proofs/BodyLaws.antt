@@ -2,13 +2,12 @@
 -- a run keeps of bodies is kept of such bodies, so texts print as they do, faults tell of the raw ones, and trials are
 -- their marks.
 use Rattle.acpidis.proofs.Common.{AllZip, ◌≡◌, ℕ, suc, Bool, false, List, [], ◌∷◌, ◌++◌, map, length, Some, Result, Ok}
-use Rattle.acpidis.proofs.Common.{Err, refl, sym, ap, ap₂, subst, arith}
-use Rattle.acpidis.proofs.Common.{slice_get, Entry, CodeFault, Trees, IfSome, table_codes, span_of, body_in}
-use Rattle.acpidis.proofs.Common.{TableSet, Method, Kept, method_in, methods_in, Body, AgreeAt, OneBody}
-use Rattle.acpidis.proofs.Common.{read, raw, all_lines, body_lines, BodyText, IsText, body_view, printed_lines, ReadsOrRaw}
-use Rattle.acpidis.proofs.Common.{Became, Reading, reading_of, entry_of, ReadsIn, AreReadings}
-use Rattle.acpidis.proofs.Common.{AreBodies, has_raw, mark_of, marks_of, IsKept, AreKept, AreKeptOf, IsSame, has_fault}
-use Rattle.acpidis.proofs.Common.{tried_mark, tried_marks, get_or}
+use Rattle.acpidis.proofs.Common.{Err, refl, sym, ap, ap₂, subst, arith, slice_get, Entry, CodeFault, Trees, IfSome}
+use Rattle.acpidis.proofs.Common.{table_codes, span_of, body_in, TableSet, Method, Kept, method_in, methods_in, Body}
+use Rattle.acpidis.proofs.Common.{AgreeAt, OneBody, read, raw, all_lines, body_lines, BodyText, IsText, body_view}
+use Rattle.acpidis.proofs.Common.{printed_lines, ReadsOrRaw, Became, Reading, reading_of, entry_of, ReadsIn}
+use Rattle.acpidis.proofs.Common.{AreReadings, AreBodies, has_raw, mark_of, marks_of, IsKept, AreKept, AreKeptOf}
+use Rattle.acpidis.proofs.Common.{IsSame, has_fault, tried_mark, tried_marks, get_or}
 use Rattle.aml_namespace.specs.Known.{Known, StandsFor}
 use Rattle.asl_text.specs.declared.bodies.Body.TheVariants as bodies
 use Rattle.asl_text.specs.declared.bodies.BodyText.TheVariants as kept_texts

@@ -2,12 +2,11 @@
 -- tables have then, with the marks that are still to come, stays what it was (`counted_more`). The counts begin at
 -- nothing and end where no mark is left (`counted_all`).
 use Rattle.acpidis.proofs.Common.{◌&&◌, list_all, sum_by-cons, at_drop_all, drop_more, get_or_default, set_past, All}
-use Rattle.acpidis.proofs.Common.{All-get_or, All-map, All-set, All-weaker, All-nil, All-cons, ◌≡◌}
-use Rattle.acpidis.proofs.Common.{ℕ, zero, suc, ◌+◌, ◌<◌, ◌≤◌, nat_eq, Bool, true, false, cond, List, [], ◌∷◌, map}
-use Rattle.acpidis.proofs.Common.{drop, length, get_or, set, inl, inr, Result}
-use Rattle.acpidis.proofs.Common.{refl, sym, ap, ap₂, ◌∙◌, arith, CodeFault, Trees, AreShort, Kept, OneBlock}
-use Rattle.acpidis.proofs.Common.{blocks_of, marks_in, IsUnder, Under, added}
-use Rattle.acpidis.proofs.Common.{uncounted, tally, tallied, tried_mark, tried_marks, Checked, Mark}
+use Rattle.acpidis.proofs.Common.{All-get_or, All-map, All-set, All-weaker, All-nil, All-cons, ◌≡◌, ℕ, zero, suc, ◌+◌}
+use Rattle.acpidis.proofs.Common.{◌<◌, ◌≤◌, nat_eq, Bool, true, false, cond, List, [], ◌∷◌, map, drop, length, get_or}
+use Rattle.acpidis.proofs.Common.{set, inl, inr, Result, refl, sym, ap, ap₂, ◌∙◌, arith, CodeFault, Trees, AreShort}
+use Rattle.acpidis.proofs.Common.{Kept, OneBlock, blocks_of, marks_in, IsUnder, Under, added, uncounted, tally, tallied}
+use Rattle.acpidis.proofs.Common.{tried_mark, tried_marks, Checked, Mark}
 use Rattle.std.proofs.lemmas.Bool.{cases_lt}
 use Rattle.std.proofs.lemmas.Bool.Decides.{nat_tests}
 use Rattle.aml_text.proofs.Pairs.{pairs_many, pair_there}

@@ -1,11 +1,10 @@
 -- A set of dumps means one listing: what an order and a load of it give is what the dumps load to, with the bodies that
 -- were read it is what they mean, and whatever they mean is that. What a refused load tells is told of the one order.
-use Rattle.acpidis.proofs.Common.{AllZip, ◌≡◌, ◌≤◌, ℕ, List, [], ◌∷◌, map, length, refl, sym, ap₂}
-use Rattle.acpidis.proofs.Common.{◌∙◌, Trees, Entry}
-use Rattle.acpidis.proofs.Common.{LoadsBy, methods_in, methods_of, HoldsBy, HoldsLoad, Loaded, TableSet, table_dumps, IsListed, Dump}
-use Rattle.acpidis.proofs.Common.{Order, IsOrder, Body, indexes_in, Options, codes_in}
-use Rattle.acpidis.proofs.Common.{Reading, entry_of, AreReadings}
-use Rattle.acpidis.proofs.Common.{Became, AreBodies, Meaning, LoadsSet, HasTables, HasTablesBy, Means, IsSetBy, codes_of}
+use Rattle.acpidis.proofs.Common.{AllZip, ◌≡◌, ◌≤◌, ℕ, List, [], ◌∷◌, map, length, refl, sym, ap₂, ◌∙◌, Trees, Entry}
+use Rattle.acpidis.proofs.Common.{LoadsBy, methods_in, methods_of, HoldsBy, HoldsLoad, Loaded, TableSet, table_dumps}
+use Rattle.acpidis.proofs.Common.{IsListed, Dump, Order, IsOrder, Body, indexes_in, Options, codes_in, Reading}
+use Rattle.acpidis.proofs.Common.{entry_of, AreReadings, Became, AreBodies, Meaning, LoadsSet, HasTables, HasTablesBy}
+use Rattle.acpidis.proofs.Common.{Means, IsSetBy, codes_of}
 use Rattle.std.proofs.Common.{◌⊎◌, inl, inr}
 use Rattle.acpidis.specs.Told.{LoadsKept}
 use Rattle.aml_code.specs.Pieces.{Told}

@@ -1,16 +1,14 @@
 -- A run prints the text of the one listing that the dumps mean: what is kept of the bodies prints as the bodies of
 -- whatever they mean do (`texts_output`), and with `--check` says the same of them (`trials_output`); so the writer has
 -- the whole text, or its first bytes. Two listings in memory of the same dumps print the same (`one_output`).
-use Rattle.acpidis.proofs.Common.{◌≡◌, ℕ, Bool, true, false, cond, List, ◌∷◌, ◌++◌, map, get_or, Result, sym, ap}
-use Rattle.acpidis.proofs.Common.{◌∙◌, methods_of, codes_view}
-use Rattle.acpidis.proofs.Common.{table_codes, table_dumps, body_in_set, methods_in, methods_of_set, TableSet, Method, CodeFault}
-use Rattle.acpidis.proofs.Common.{Trees, Dump, BodyText, OneBody, OneBlock, levels_of}
-use Rattle.acpidis.proofs.Common.{blocks_of, blocks_in, body_lines, names_in, whole_text, listing_text, IsText}
-use Rattle.acpidis.proofs.Common.{body_view, printed_lines, indexes_in, has_raw}
-use Rattle.acpidis.proofs.Common.{Reading, entry_of, AreReadings}
-use Rattle.acpidis.proofs.Common.{marks_of, checks_with, check_lines, all_same, IsKept, AreKeptOf, IsSame}
-use Rattle.acpidis.proofs.Common.{has_fault, tried_marks, Meaning}
-use Rattle.acpidis.proofs.Common.{Means, Shows, order_of, codes_of, IsSetBy, Options}
+use Rattle.acpidis.proofs.Common.{◌≡◌, ℕ, Bool, true, false, cond, List, ◌∷◌, ◌++◌, map, get_or, Result, sym, ap, ◌∙◌}
+use Rattle.acpidis.proofs.Common.{methods_of, codes_view, table_codes, table_dumps, body_in_set, methods_in}
+use Rattle.acpidis.proofs.Common.{methods_of_set, TableSet, Method, CodeFault, Trees, Dump, BodyText, OneBody, OneBlock}
+use Rattle.acpidis.proofs.Common.{levels_of, blocks_of, blocks_in, body_lines, names_in, whole_text, listing_text}
+use Rattle.acpidis.proofs.Common.{IsText, body_view, printed_lines, indexes_in, has_raw, Reading, entry_of, AreReadings}
+use Rattle.acpidis.proofs.Common.{marks_of, checks_with, check_lines, all_same, IsKept, AreKeptOf, IsSame, has_fault}
+use Rattle.acpidis.proofs.Common.{tried_marks, Meaning, Means, Shows, order_of, codes_of, IsSetBy, Options, Tables}
+use Rattle.acpidis.proofs.Common.{subst}
 use Rattle.aml_code.specs.View.{nodes_view}
 use Rattle.aml_namespace.specs.Known.{Known, StandsFor}
 use Rattle.aml_namespace.proofs.Stands.{declarations_alone}
@@ -23,7 +21,6 @@ use Rattle.acpidis.proofs.BodyLaws.{texts_agree, trials_are, faults_are}
 use Rattle.acpidis.proofs.MeaningLaws.{means_so, means_only}
 use Rattle.acpidis.proofs.SameLaws.{all_are_same}
 use Rattle.std.specs.FinMap as finite
-use Rattle.acpidis.proofs.Common.{Tables, subst}
 use Rattle.acpidis.specs.Told.{HasTexts}
 use Rattle.aml_text.proofs.ToldLaws.{levels_are, kept_is}
 use Rattle.aml_text.specs.Told.{kept_text, levels_kept}

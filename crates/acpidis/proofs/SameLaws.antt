@@ -1,12 +1,10 @@
 -- What a set means is the same when it is made anew: what was read encodes to the bytes that it was read from, so no
 -- table of a listing that dumps mean differs.
 use Rattle.acpidis.proofs.Common.{◌&&◌, filter, list_all, All-filter, AllPass-from_list_all, list_all-from_AllPass, ◌≡◌}
-use Rattle.acpidis.proofs.Common.{ℕ, suc, Bool, true, List, [], ◌∷◌}
-use Rattle.acpidis.proofs.Common.{refl, ap₂, map, Trees, Entry, AllZip, methods_of, span_of, Method, OneBody, read, raw}
-use Rattle.acpidis.proofs.Common.{names_in, blocks_of, Dump}
-use Rattle.acpidis.proofs.Common.{Options, Mark, ReadsOrRaw, same_bytes, body_same, marks_of, checks_with, tallied}
-use Rattle.acpidis.proofs.Common.{uncounted, all_same, Meaning}
-use Rattle.acpidis.proofs.Common.{Means, order_of, codes_of}
+use Rattle.acpidis.proofs.Common.{ℕ, suc, Bool, true, List, [], ◌∷◌, refl, ap₂, map, Trees, Entry, AllZip, methods_of}
+use Rattle.acpidis.proofs.Common.{span_of, Method, OneBody, read, raw, names_in, blocks_of, Dump, Options, Mark}
+use Rattle.acpidis.proofs.Common.{ReadsOrRaw, same_bytes, body_same, marks_of, checks_with, tallied, uncounted}
+use Rattle.acpidis.proofs.Common.{all_same, Meaning, Means, order_of, codes_of}
 use Rattle.acpidis.proofs.Spelling.{Spells, all_spelled}
 use Rattle.std.proofs.lemmas.Slice.Eq.{bytes_eq-Decides}
 

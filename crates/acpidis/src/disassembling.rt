@@ -1,5 +1,5 @@
 //! From the dumps of a set to its listing, the bodies read by workers.
-ghost use Rattle.std.specs.Prelude.{◌≡◌, ◌⊎◌, ◌≤◌, ℕ, Bool, true, false, List, IfOk, IfErr, length};
+ghost use Rattle.std.specs.Prelude.{◌≡◌, ◌⊎◌, ◌≤◌, ℕ, Bool, true, List, IfOk, IfErr, length};
 ghost use Rattle.aml_code.specs.Tree.{Trees};
 ghost use Rattle.aml_namespace.specs.Namespace.{Entry};
 ghost use Rattle.aml_load.specs.Views.{HoldsTables};

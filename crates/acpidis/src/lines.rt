@@ -1,7 +1,5 @@
 //! The lines of all bodies of a loaded set, read by the caller alone, for whoever prints no listing.
 ghost use Rattle.std.specs.Prelude.{◌≡◌, ◌≤◌, IfOk, IfErr, length};
-ghost use Rattle.aml_code.specs.Tree.{Trees};
-ghost use Rattle.acpidis.specs.Bodies.{IsItsBody, Reading, ReadsIn};
 ghost use Rattle.acpidis.specs.Checks.{AreKeptOf, IsKept, AreLines};
 
 use crate::bodies::{Keep, Unread, keep_bodies_alone};

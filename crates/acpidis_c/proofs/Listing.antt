@@ -1,9 +1,9 @@
 -- Values in their order, with their texts one behind the other; and a loaded set's, which are those of whatever the dumps
 -- load to.
 use Rattle.std.proofs.Common.{◌≡◌, ℕ, List, [], ◌∷◌, ◌++◌, ◌+◌, flat_map, length, refl, sym, ap, ap₂, ◌∙◌, arith}
-use Rattle.std.proofs.Common.{append_assoc, length-append, Bool, true, false, Result, Ok, Err, subst}
+use Rattle.std.proofs.Common.{length-append, Bool, true, false, Result, Ok, Err, subst}
 use Rattle.std.proofs.lemmas.Bool.{false≢true}
-use Rattle.std.proofs.lemmas.List.{append-nil, flat_map_more}
+use Rattle.std.proofs.lemmas.List.{flat_map_more}
 use Rattle.std.specs.FinMap as map
 use Rattle.std.specs.Prelude.{Vec}
 use Rattle.std.specs.Global.{Global}
@@ -28,8 +28,6 @@ use Rattle.acpidis_c.specs.declared.contents.Contents.{Contents}
 use Rattle.acpidis_c.specs.declared.contents.Values.{Values}
 
 module _ {A B : Type 0} (text : A → List ℕ) (value : ℕ → A → B) where
-  -- ---- from the first on
-
   pub values_push : (at : ℕ) (xs : List A) (x : A)
       → values_from text value at (xs ++ x ∷ []) ≡ values_from text value at xs ++ value (at + length (flat_map text xs)) x ∷ []
   values_push at [] x = ap (λ n. value n x ∷ []) (omega arith)
@@ -53,28 +51,10 @@ module _ {A B : Type 0} (text : A → List ℕ) (value : ℕ → A → B) where
         put ∙ ap (λ t. t ++ text x) was.1 ∙ flat_map_more text [] xs x,
       )
 
-  -- ---- up to those that are left
-
+  -- up to those that are left
   pub record AreBefore (all left : List A) (told : List B) (put : List ℕ) : Type 0 where
     pub items : told ++ values_from text value (length put) left ≡ values_from text value 0 all
     pub texts : put ++ flat_map text left ≡ flat_map text all
-
-  pub before_more : (all left : List A) (x : A) (items more : List B) (texts after : List ℕ) (v : B)
-      → AreBefore all (x ∷ left) items texts → v ≡ value (length texts) x → more ≡ items ++ v ∷ [] → after ≡ texts ++ text x
-      → AreBefore all left more after
-  before_more all left x items more texts after v was is pushed put =
-      let long : length after ≡ length texts + length (text x) = ap length put ∙ length-append texts (text x) in record {
-        items = ap₂ (λ l n. l ++ values_from text value n left) pushed long
-            ∙ append_assoc items (v ∷ []) (values_from text value (length texts + length (text x)) left)
-            ∙ ap (λ w. items ++ w ∷ values_from text value (length texts + length (text x)) left) is ∙ was.items;
-        texts = ap (λ t. t ++ flat_map text left) put ∙ append_assoc texts (text x) (flat_map text left) ∙ was.texts;
-      }
-
-  pub before_all : (all : List A) (items : List B) (texts : List ℕ) → AreBefore all [] items texts → AreFirst all items texts
-  before_all all items texts was = (sym (append-nil items) ∙ was.items, sym (append-nil texts) ∙ was.texts)
-
-  pub first_values : (xs : List A) (v : Values B) → AreFirst xs v.items.items v.texts.items → AreValues text value xs v
-  first_values xs v h = record { items = h.0; texts = h.1 }
 
 -- ---- what is kept of bodies has the values of what they read as
 

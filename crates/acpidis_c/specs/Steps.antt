@@ -1,7 +1,6 @@
 -- What the calls that change a set do.
-use Rattle.std.specs.Prelude.{ℕ, Bool, List, Option}
+use Rattle.std.specs.Prelude.{ℕ, Bool, List, Option, ◌⊎◌}
 use Rattle.acpi_tables.specs.declared.dump.Dump.{Dump}
-use Rattle.std.specs.Prelude.{◌⊎◌}
 use Rattle.acpidis_c.specs.Dumps.{IsDumpOf, RefusesDump}
 use Rattle.acpidis_c.specs.States.{HasAdded, HasFlags, RefusesCount}
 use Rattle.acpidis_c.specs.declared.code.Fault.{Fault}

@@ -2,8 +2,7 @@
 ghost use Rattle.std.specs.Prelude.{◌≡◌, None, Some, IfOk, IfErr, OnErr, OnOk};
 ghost use Rattle.acpidis_c.specs.declared.code.Fault.TheVariants.{NotRun};
 ghost use Rattle.acpidis_c.specs.States.{IsNew, HasAdded, HasFlags, HasCounts, IsSame, IsRunOf, Settles, HasRun};
-ghost use Rattle.acpidis_c.specs.States.{HasListed, RefusesListed};
-ghost use Rattle.acpidis_c.specs.States.{RefusesCount, RefusesCounts, IsNoMemory};
+ghost use Rattle.acpidis_c.specs.States.{HasListed, RefusesListed, RefusesCount, RefusesCounts, IsNoMemory};
 
 use crate::code::{Ended, Fault};
 use crate::contents::{Contents, contents_of};

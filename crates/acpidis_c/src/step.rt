@@ -1,5 +1,5 @@
 //! Calls that change the state of an open set.
-ghost use Rattle.std.specs.Prelude.{◌≡◌, OnOk, OnErr, IfErr};
+ghost use Rattle.std.specs.Prelude.{OnOk, OnErr, IfErr};
 ghost use Rattle.acpidis_c.specs.declared.code.Fault.{Fault};
 ghost use Rattle.acpidis_c.specs.declared.state.State.{State};
 ghost use Rattle.acpidis_c.specs.Sets.{state_of, Calls};

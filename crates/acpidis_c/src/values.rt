@@ -1,5 +1,5 @@
 //! Values of rows, methods and bodies, with their texts.
-ghost use Rattle.std.specs.Prelude.{◌≡◌, ◌++◌, length, map as map_list, flat_map, cond, IfOk, IfErr, OnOk};
+ghost use Rattle.std.specs.Prelude.{◌≡◌, ◌++◌, length, IfOk, IfErr, OnOk};
 ghost use Rattle.std.specs.FinMap as map;
 ghost use Rattle.aml_text.specs.Rows.{path_text};
 ghost use Rattle.aml_set.specs.Methods.{method_in, methods_in};

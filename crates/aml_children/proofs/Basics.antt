@@ -2,11 +2,9 @@
 use Rattle.std.specs.Prelude.{◌==◌, slice_get}
 use Rattle.std.proofs.Common.{◌≡◌, ℕ, zero, suc, ◌<◌, Bool, true, false, not, cond, List, [], ◌∷◌, ◌++◌, length, get_or}
 use Rattle.std.proofs.Common.{Option, Some, None, is_some, refl}
-use Rattle.std.proofs.Common.{arith, Bor, IfSome, inl, inr, subst, sym, ap, ◌∙◌, length-append}
-use Rattle.std.proofs.lemmas.Bool.{cases_lt}
-use Rattle.std.proofs.lemmas.Option.{slice_get_past}
-use Rattle.std.specs.Option.{option_or, option_and_then, option_map, option_copied}
+use Rattle.std.proofs.Common.{arith}
 use Rattle.std.proofs.lemmas.Bool.{false≢true}
+use Rattle.std.specs.Option.{option_or, option_and_then, option_map}
 use Rattle.std.proofs.lemmas.Bool.Decides.{nat_tests}
 
 pub suc_eq : (a b : ℕ) → (suc a == suc b) ≡ (a == b)
@@ -30,10 +28,6 @@ pub not_true : (b : Bool) → not b ≡ true → b ≡ false
 not_true true h = absurd (false≢true h)
 not_true false h = refl
 
-pub copied_some : {A : Type 0} (o : Option (Bor A)) → is_some o ≡ is_some (option_copied o)
-copied_some None = refl
-copied_some (Some x) = refl
-
 pub some_map : {A B : Type 0} (f : A → B) (o : Option A) → is_some (option_map f o) ≡ is_some o
 some_map f None = refl
 some_map f (Some x) = refl
@@ -54,20 +48,6 @@ module _ {A : Type 0} where
   pub read_last : (xs : List A) (y : A) → slice_get (xs ++ y ∷ []) (length xs) ≡ Some y
   read_last [] y = refl
   read_last (x ∷ xs) y = read_last xs y
-
-  -- what holds of each by its place, with one more
-  pub each_more : (P : ℕ → A → Type 0) (xs : List A) (x : A) → ((i : ℕ) → IfSome (slice_get xs i) (P i))
-      → P (length xs) x → (i : ℕ)
-      → IfSome (slice_get (xs ++ x ∷ []) i) (P i)
-  each_more P xs x all last i = elim (cases_lt i (length xs)) [
-    | inl below ↦ subst (λ o. IfSome o (P i)) (sym (read_front xs (x ∷ []) i below)) (all i)
-    | inr past ↦ elim (cases_lt (length xs) i) [
-      | inl far ↦ subst (λ o. IfSome o (P i)) (sym (slice_get_past (xs ++ x ∷ []) i (omega (arith, far, length-append xs (x ∷ []))))) tt
-      | inr near ↦
-          let at : i ≡ length xs = omega (arith, past, near) in
-          subst (λ o. IfSome o (P i)) (sym (ap (slice_get (xs ++ x ∷ [])) at ∙ read_last xs x)) (subst (λ n. P n x) (sym at) last)
-    ]
-  ]
 
 -- a list of one
 pub alone : {A : Type 0} (xs : List A) (e : A) → length xs ≡ 1 → get_or xs 0 e ∷ [] ≡ xs

@@ -1,9 +1,8 @@
 -- What is seen of a tree, by its fork or a copy of it: its children are those of the two sides around one, so they are
 -- sought and put on one side (`at_left`, `put_right` and their kin). And the forks that come of a lift.
 use Rattle.std.proofs.Common.{◌≡◌, ℕ, ◌+◌, ◌^◌, ◌<◌, ◌≤◌, true, false, List, ◌∷◌, ◌++◌, length, Option, Some, sym, ap}
-use Rattle.std.proofs.Common.{subst, ◌∙◌, arith, length-append}
+use Rattle.std.proofs.Common.{subst, ◌∙◌, arith, length-append, append_assoc}
 use Rattle.std.specs.Global.{Box}
-use Rattle.std.proofs.Common.{append_assoc}
 use Rattle.std.specs.Option.{option_or}
 use Rattle.std.specs.Ordering.{is_lt}
 use Rattle.std.specs.declared.cmp.Ordering.{Ordering}

@@ -1,8 +1,7 @@
 -- What is gathered below a node is what stands where the paths lead: a path is found among it as `walk` finds it
 -- (`find_gather`), so the map of what is gathered at the root answers so (`get_gather`).
 use Rattle.std.proofs.Common.{◌≡◌, ℕ, zero, suc, ◌+◌, ◌<◌, ◌≤◌, Bool, true, false, cond, List, [], ◌∷◌, ◌++◌}
-use Rattle.std.proofs.Common.{map as map_list, Option, Some, None, refl, ap}
-use Rattle.std.proofs.Common.{◌∙◌, arith}
+use Rattle.std.proofs.Common.{map as map_list, Option, Some, None, refl, ap, ◌∙◌, arith}
 use Rattle.std.specs.List.{flat_map}
 use Rattle.std.specs.Option.{option_and_then, option_or}
 use Rattle.std.specs.Ordering.{eq_by_cmp, ordering_then, is_eq}

@@ -1,6 +1,5 @@
 //! A balanced tree of children, seen as the list of these in order and the tree's height (Adelson-Velsky and Landis).
-ghost use Rattle.std.specs.Prelude.{◌≡◌, ℕ, ◌+◌, ◌^◌, ◌<◌, ◌≤◌, max, [], ◌∷◌, ◌++◌, Some, None, is_some, is_ok};
-ghost use Rattle.std.specs.Prelude.{if◌then◌else◌, IsTrue, OnOk, OnErr, IfOk};
+ghost use Rattle.std.specs.Prelude.{◌≡◌, ℕ, ◌+◌, ◌^◌, ◌<◌, ◌≤◌, max, [], Some, None, is_ok, if◌then◌else◌, OnOk, OnErr};
 ghost use Rattle.aml_children.specs.Children.{child_in, Rise, put, behind, first_node};
 ghost use Rattle.aml_children.specs.Trees.{made, list_of, list_and_height, seen, height_of, left_lifted, right_lifted};
 ghost use Rattle.aml_children.specs.Trees.{DifferByAtMost, IsBalanced, AreBalanced, IsNearlyBalanced};

@@ -14,8 +14,7 @@ use Rattle.aml_code.specs.declared.rows.TailKind.TheVariants as tails
 use Rattle.aml_code.specs.Opcodes.{Row, rows, row_of, takes}
 use Rattle.aml_code.specs.Tree.{Tree, nothing, named, op, Trees, no_trees, tree_more, Parts, Tail, terms}
 use Rattle.aml_code.specs.Lawful.{names_declared, with_declared, declared_by, after, after_all, after_tail, Setting}
-use Rattle.aml_code.specs.Lawful.{IsLawful, AreTerms, IsTail, next_position}
-use Rattle.aml_code.specs.Lawful.{terms_in, tail_in}
+use Rattle.aml_code.specs.Lawful.{IsLawful, AreTerms, IsTail, next_position, terms_in, tail_in}
 use Rattle.aml_code.proofs.RowFacts.{and_left, and_right, rows_say}
 use Rattle.aml_code.proofs.Takers.{taker_takes}
 

@@ -10,13 +10,11 @@ use Rattle.aml_names.specs.declared.faults.CodeFault.{CodeFault}
 use Rattle.aml_names.specs.declared.faults.CodeFault.TheVariants as faults
 use Rattle.aml_names.specs.NameReading.{◌>>=◌, byte_at}
 use Rattle.aml_names.proofs.StepLaws.{ok_is, err_is, bind_then, err_then, cond_then, IsBytes, IsBytes-drop}
-use Rattle.aml_names.proofs.StepLaws.{IsBytes-take, Takes, Takes-then, byte_takes}
-use Rattle.aml_names.proofs.StepLaws.{byte_fault}
+use Rattle.aml_names.proofs.StepLaws.{IsBytes-take, Takes, Takes-then, byte_takes, byte_fault}
 use Rattle.aml_code.specs.declared.packages.PkgWidth.{PkgWidth}
 use Rattle.aml_code.specs.declared.packages.PkgWidth.TheVariants as width
 use Rattle.aml_code.specs.Packages.{following_bytes, width_of, width_len, little, package_bytes, FitsWidth, little_at}
-use Rattle.aml_code.specs.Packages.{value_at}
-use Rattle.aml_code.specs.Packages.{length_at, span_at, front_at}
+use Rattle.aml_code.specs.Packages.{value_at, length_at, span_at, front_at}
 use Rattle.aml_code.specs.Faults.{HasPkgBits, IsLengthFault}
 use Rattle.aml_code.specs.Tree.{op, Parts, empty, opcode_bytes, encoding, parts_encoding}
 use Rattle.aml_code.proofs.Answered.{answered, not_answered}
@@ -83,10 +81,6 @@ width_again width.Four = refl
 
 pub width_some : (w : PkgWidth) → 0 < width_len w
 width_some w = omega arith
-
-pub length-little : (k n : ℕ) → length (little k n) ≡ k
-length-little zero n = refl
-length-little (suc k) n = ap suc (length-little k (n / 256))
 
 pub length-package_bytes : (w : PkgWidth) (v : ℕ) → length (package_bytes w v) ≡ width_len w
 length-package_bytes width.One v = refl

@@ -4,8 +4,7 @@
 -- declares. A two-byte opcode `5B xx` is 0x5Bxx. LNotEqual, LLessEqual and LGreaterEqual (92 93, 92 94, 92 95) are LNot
 -- around LEqual, LGreater and LLess.
 use Prim.Native.String.{String}
-use Rattle.std.specs.Prelude.{ℕ, List, [], ◌∷◌, codes, ◌==◌, Bool, true, false, Option, Some}
-use Rattle.std.specs.Prelude.{None, is_some, find}
+use Rattle.std.specs.Prelude.{ℕ, List, [], ◌∷◌, codes, ◌==◌, Bool, true, false, Option, Some, None, is_some, find}
 use Rattle.aml_code.specs.declared.rows.Group.{Group}
 use Rattle.aml_code.specs.declared.rows.Group.TheVariants.{Value, Expression, Statement, Declaration}
 use Rattle.aml_code.specs.declared.rows.Object.{Object}

@@ -1,8 +1,7 @@
 //! Package lengths (ACPI 6.5, 20.2.4).
-ghost use Rattle.std.specs.Prelude.{◌≡◌, ◌≢◌, ◌+◌, ◌-◌, ◌*◌, ◌<◌, ◌≤◌, ◌^◌, ◌⊎◌, ◌++◌, ℕ, List, length, take, IfOk};
-ghost use Rattle.std.specs.Prelude.{IfErr};
+ghost use Rattle.std.specs.Prelude.{◌≡◌, ◌≢◌, ◌+◌, ◌-◌, ◌*◌, ◌<◌, ◌≤◌, ◌^◌, ◌++◌, ℕ, List, length, IfOk, IfErr};
 ghost use Rattle.aml_names.specs.NameReading.{Gives};
-ghost use Rattle.aml_code.specs.Packages.{width_len, following_bytes, width_of, package_bytes, FitsWidth, little_at};
+ghost use Rattle.aml_code.specs.Packages.{width_len, width_of, package_bytes, FitsWidth, little_at};
 ghost use Rattle.aml_code.specs.Packages.{value_at, length_at, span_at, front_at};
 ghost use Rattle.aml_code.specs.Faults.{IsLengthFault};
 

@@ -1,17 +1,16 @@
 -- The last segments of the paths in a set, and the nearest of them in a scope. What is known of each last segment stays
 -- true where a path is added (`known_pushed`, `known_root`), where a segment alone is made known and set back
--- (`known_room`, `known_back`), and answers what a look at the paths would (`known_end`, `known_depth`).
+-- (`known_room`, `known_back`), and answers what a look at the paths would (`known_depth`).
 use Rattle.std.specs.Prelude.{slice_get}
 use Rattle.std.specs.Option.{option_flatten}
 use Rattle.std.proofs.Common.{◌≡◌, ℕ, zero, suc, ◌+◌, ◌-◌, ◌<◌, ◌≤◌, ◌==◌, Bool, true, false, ◌||◌, cond, List, [], ◌∷◌}
-use Rattle.std.proofs.Common.{◌++◌, length, take, drop, Option, Some}
-use Rattle.std.proofs.Common.{None, IfSome, is_some, Result, Ok, Err, OnOk, OnErr, refl, sym, ap, subst, ◌∙◌, arith}
-use Rattle.std.proofs.Common.{length-append}
+use Rattle.std.proofs.Common.{◌++◌, length, take, drop, Option, Some, None, IfSome, is_some, Result, Ok, Err, OnOk}
+use Rattle.std.proofs.Common.{OnErr, refl, sym, ap, subst, ◌∙◌, arith, length-append}
 use Rattle.std.proofs.lemmas.Bool.{false≢true, eqb-true, eqb-false, cond_both, false_from_ne_true}
 use Rattle.std.proofs.lemmas.Bool.Decides.{nat_tests}
 use Rattle.std.proofs.lemmas.List.{take-take, take-append-le, take_all, take_at, take_more, length-take, length-take-le}
 use Rattle.std.proofs.Math.Seq.{drop-append_seam}
-use Rattle.std.proofs.lemmas.Option.{IfSome_then, slice_get-get_or, slice_get_within, get_or_from_slice_get}
+use Rattle.std.proofs.lemmas.Option.{IfSome_then, slice_get-get_or, get_or_from_slice_get}
 use Rattle.std.proofs.lemmas.Map.Views.{tells_apart}
 use Rattle.std.specs.Ordering.{eq_by_cmp}
 use Rattle.std.specs.Cmp.{eq_by_cmp_equiv}
@@ -87,15 +86,6 @@ module _ (paths : PathSet) (scope : List Seg) where
       → option_flatten known ≡ nearest paths scope (end ∷ [])
   known_depth end None none = sym (nearest_none paths scope scope end none)
   known_depth end (Some depth) is = is
-
-  -- the segment that a path ends in is known
-  pub known_end : (known : Seg → Option (Option ℕ)) (p : List Seg) (e : Seg) → KnowEnds paths scope known
-      → slice_get p (length p - 1) ≡ Some e → known e ≡ None
-      → set.contains paths p ≡ false
-  known_end known p e know is none =
-      let long = slice_get_within p (length p - 1) e is in
-      ap (set.contains paths) (last_split (length p - 1) p e (omega (arith, long)) is)
-      ∙ (subst (IsKnown paths scope e) none (know e)) (take (length p - 1) p)
 
   -- a segment more that is known
   pub known_room : (known new : Seg → Option (Option ℕ)) (e : Seg) → KnowEnds paths scope known

@@ -14,8 +14,7 @@ use Rattle.aml_names.specs.declared.segments.Seg.{Seg}
 use Rattle.aml_names.specs.declared.names.Name.{Name}
 use Rattle.aml_names.specs.declared.names.NameForm.{NameForm}
 use Rattle.aml_names.specs.declared.names.NameForm.TheVariants.{Null, One, Dual, Multi}
-use Rattle.aml_names.specs.Names.{is_lead_char, IsNameSeg, FitsForm, IsName}
-use Rattle.aml_names.specs.Names.{form_bytes, spelling, is_name_lead}
+use Rattle.aml_names.specs.Names.{is_lead_char, IsNameSeg, FitsForm, IsName, form_bytes, spelling, is_name_lead}
 use Rattle.aml_names.specs.NameReading.{Fails, Left, passing_at, segment_at, segments_at, is_count, form_by, form_at}
 use Rattle.aml_names.specs.NameReading.{parents, is_rooted, path_at, name_at}
 use Rattle.aml_names.specs.NameReading.{NameFault, is_bare, Begins, Spelled, SpellsNone}

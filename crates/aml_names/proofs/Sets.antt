@@ -1,13 +1,12 @@
 -- The set that a tree set's keys make.
 use Rattle.std.proofs.Common.{◌≡◌, length, Bool, true, false, cond, ◌||◌, List, [], ◌∷◌, refl, sym, ap, ◌∙◌}
 use Rattle.std.proofs.lemmas.Bool.{false≢true}
-use Rattle.std.specs.Ordering.{eq_by_cmp}
 use Rattle.std.specs.Cmp.{eq_by_cmp_equiv}
 use Rattle.std.specs.List.{list_any}
 use Rattle.std.specs.BTreeMap.{is_at}
 use Rattle.std.specs.FinSet as set
 use Rattle.aml_names.specs.declared.segments.Seg.{Seg}
-use Rattle.aml_names.specs.Paths.{path_cmp, paths_total, exact_paths}
+use Rattle.aml_names.specs.Paths.{path_cmp, paths_total}
 
 pub any_path : (ks : List (List Seg)) (q : List Seg) → set.contains (set.from_list {R = path_cmp} ks) q ≡ list_any (is_at (path_cmp q)) ks
 any_path ks q = set.contains-from_list paths_total ks q
@@ -15,14 +14,6 @@ any_path ks q = set.contains-from_list paths_total ks q
 or_by_cond : (a b : Bool) → cond a true b ≡ (a || b)
 or_by_cond true b = refl
 or_by_cond false b = refl
-
-pub one_added : (ks ms : List (List Seg)) (p : List Seg) → ((q : List Seg)
-    → list_any (is_at (path_cmp q)) ms ≡ cond (is_at (path_cmp p) q) true (list_any (is_at (path_cmp q)) ks))
-    → set.from_list {R = path_cmp} ms ≡ set.insert (set.from_list ks) p
-one_added ks ms p h = set.same_set paths_total exact_paths _ _ (λ q.
-    any_path ms q ∙ h q ∙ or_by_cond (eq_by_cmp path_cmp p q) (list_any (is_at (path_cmp q)) ks)
-    ∙ ap (λ b. b || list_any (is_at (path_cmp q)) ks) ((eq_by_cmp_equiv paths_total).symm p q)
-    ∙ sym (set.contains-insert paths_total (set.from_list ks) p q ∙ ap (λ b. eq_by_cmp path_cmp q p || b) (any_path ks q)))
 
 -- keys that make the empty set are none
 pub no_keys : (ks : List (List Seg)) → set.from_list {R = path_cmp} ks ≡ set.empty → length ks ≡ 0

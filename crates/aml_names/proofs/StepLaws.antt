@@ -1,7 +1,6 @@
 -- What holds of a step that was taken, and of one that failed.
 use Rattle.std.proofs.Common.{◌≡◌, ℕ, suc, ◌+◌, ◌<◌, Bool, true, false, cond, List, [], ◌∷◌, ◌++◌, get_or, take, drop}
-use Rattle.std.proofs.Common.{Result, Ok, Err, refl, sym, ap, subst}
-use Rattle.std.proofs.Common.{◌∙◌, append_assoc, arith, inl, inr}
+use Rattle.std.proofs.Common.{Result, Ok, Err, refl, sym, ap, subst, ◌∙◌, append_assoc, arith, inl, inr}
 use Rattle.std.proofs.lemmas.Bool.{cases_lt}
 use Rattle.std.proofs.lemmas.List.{length-take, get_or-drop, get_or-take, get_or_past}
 use Rattle.aml_names.specs.declared.faults.CodeFault.{CodeFault}
@@ -39,17 +38,6 @@ pub cond_then : {A : Type 0} (P : Type 0) (b : Bool) (x y z : A) → cond b x y 
     → (b ≡ false → y ≡ z → P) → P
 cond_then P true x y z e f g = f refl e
 cond_then P false x y z e f g = g refl e
-
--- a test that refuses, and didn't
-pub guard_ok : {A : Type 0} (b : Bool) (d : CodeFault) (r : Result A CodeFault) (y : A) → cond b (Err d) r ≡ Ok y
-    → (b ≡ false) × (r ≡ Ok y)
-guard_ok true d r y e = absurd cc
-guard_ok false d r y e = (refl, e)
-
-pub chosen_ok : {A : Type 0} (b : Bool) (d : CodeFault) (r : Result A CodeFault) (y : A) → cond b r (Err d) ≡ Ok y
-    → (b ≡ true) × (r ≡ Ok y)
-chosen_ok true d r y e = (refl, e)
-chosen_ok false d r y e = absurd cc
 
 -- ---- bytes
 

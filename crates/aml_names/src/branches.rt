@@ -1,15 +1,13 @@
 //! Paths by where they branch off a scope.
-ghost use Rattle.std.specs.Prelude.{◌≡◌, ◌≤◌, ◌<◌, ◌+◌, ◌-◌, ◌^◌, ◌++◌, [], ◌∷◌, ℕ, List, cond, length, take};
-ghost use Rattle.std.specs.Prelude.{slice_get};
+ghost use Rattle.std.specs.Prelude.{◌≡◌, ◌≤◌, ◌<◌, ◌+◌, ◌-◌, ◌^◌, ◌++◌, [], ◌∷◌, List, cond, length, take, slice_get};
 ghost use Rattle.std.specs.Prelude.{Some, None, false, IsTrue, ◌↔◌, OnOk, OnErr, IfOk};
 ghost use Rattle.std.specs.Bool.{OnTrue, OnFalse};
 ghost use Rattle.std.specs.Option.{option_flatten};
-ghost use Rattle.std.specs.Ordering.{eq_by_cmp};
 ghost use Rattle.std.specs.List.{list_any};
 ghost use Rattle.std.specs.BTreeMap.{is_at, get, IsUnchanged};
 ghost use Rattle.std.specs.FinSet as set;
 ghost use Rattle.aml_names.specs.declared.segments.Seg.{Seg};
-ghost use Rattle.aml_names.specs.Paths.{seg_cmp, path_cmp};
+ghost use Rattle.aml_names.specs.Paths.{seg_cmp};
 ghost use Rattle.aml_names.specs.Branches.{whole, goes_on, end_depth, branch_cmp, IsBranch};
 ghost use Rattle.aml_names.specs.Searching.{nearest, deeper};
 

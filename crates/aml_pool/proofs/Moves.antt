@@ -2,8 +2,7 @@
 -- is left; a look, which changes nothing (`looks`); a split (`splits`), a join (`joins`), and the end (`closes`). So
 -- the board follows the machine (`follows_machine`).
 use Rattle.std.proofs.Common.{◌≡◌, ◌≢◌, ℕ, zero, suc, ◌+◌, ◌%◌, ◌<◌, ◌≤◌, List, [], ◌∷◌, ◌++◌, length, map, set, true}
-use Rattle.std.proofs.Common.{refl, sym, ap, ap₂, ◌∙◌, subst, ⊎_elim}
-use Rattle.std.proofs.Common.{arith, get_or, length-set, get_or-set_same, min}
+use Rattle.std.proofs.Common.{refl, sym, ap, ap₂, ◌∙◌, subst, ⊎_elim, arith, get_or, length-set, get_or-set_same, min}
 use Rattle.std.specs.Prelude.{nat_lt, ◌||◌, Option, Some, None}
 use Rattle.std.proofs.lemmas.List.{map-set, map-append}
 use Rattle.std.proofs.lemmas.Bool.{lt-ltb}
@@ -17,9 +16,8 @@ use lib.Seq.{set-get_or}
 use Rattle.aml_pool.specs.declared.board.View.{View}
 use Rattle.aml_pool.specs.Counting.{times, once_below, total, IsOnce}
 use Rattle.aml_pool.specs.Machine.{Claimant, Claims, by_draw, by_split, by_join, Draws, Opens, Joins, IsDraw, newcomer}
-use Rattle.aml_pool.specs.Machine.{together, claims, view, claimant}
-use Rattle.aml_pool.specs.Machine.{claims_shown, spent, Fits, IsRuled, TellsDraw, TellsLook, kept, given, joined}
-use Rattle.aml_pool.specs.Machine.{FollowsMachine}
+use Rattle.aml_pool.specs.Machine.{together, claims, view, claimant, claims_shown, spent, Fits, IsRuled, TellsDraw}
+use Rattle.aml_pool.specs.Machine.{TellsLook, kept, given, joined, FollowsMachine}
 use Rattle.aml_pool.proofs.Counts.{total_set, total_more, total_le, total_at, total-map, total_only}
 use Rattle.aml_pool.proofs.Runs.{counted, sound, stands_below, stands_once}
 

@@ -1,8 +1,7 @@
 -- Places of a shelf, free and taken: how many are free when it is new, after a value is filed, and when all are taken.
 -- Each number was drawn once, so each value comes to a free place.
 use Rattle.std.proofs.Common.{◌≡◌, ℕ, zero, suc, ◌+◌, ◌<◌, Option, Some, None, List, [], ◌∷◌, ◌++◌, map, length, set}
-use Rattle.std.proofs.Common.{replicate, length-append, sym, refl}
-use Rattle.std.proofs.Common.{get_or, subst, ◌∙◌, ap, arith}
+use Rattle.std.proofs.Common.{replicate, length-append, sym, refl, get_or, subst, ◌∙◌, ap, arith}
 use Rattle.std.specs.Prelude.{slice_get, All}
 use Rattle.std.proofs.lemmas.List.{map-append, get_or_append_left}
 use Rattle.std.proofs.lemmas.Option.{slice_get_read}

@@ -10,8 +10,7 @@ use lib.ListN.{get_elem?}
 use Rattle.atomic_table.proofs.Lists.{at_set, at_snoc, set_else}
 use Rattle.aml_pool.specs.Counting.{times, once_below, total}
 use Rattle.aml_pool.specs.Machine.{Claimant, Claims, Change, by_draw, by_split, by_join, Draws, Opens, Joins, IsRun}
-use Rattle.aml_pool.specs.Machine.{IsSound, newcomer, together}
-use Rattle.aml_pool.specs.Machine.{opening_claims}
+use Rattle.aml_pool.specs.Machine.{IsSound, newcomer, together, opening_claims}
 use Rattle.aml_pool.proofs.Counts.{times-append, times-flat_map, total_set, total_more, total_at, above_one}
 use Rattle.aml_pool.proofs.Counts.{once_below-le, once_below-more}
 

@@ -19,7 +19,7 @@ use Rattle.aml_code.specs.Tree.{Parts, Tail}
 use Rattle.aml_namespace.specs.Kinds.{Kind}
 use Rattle.aml_namespace.specs.declared.kinds.Kind.TheVariants as kinds
 use Rattle.aml_namespace.specs.Namespace.{Entry, declares, external, declared_at, Namespace, namespace_of, kind_at}
-use Rattle.aml_namespace.specs.Namespace.{found}
+use Rattle.aml_namespace.specs.Namespace.{found, target_by}
 use Rattle.aml_namespace.specs.Runs.{outlook_of, opens_scope, scope_in, is_alias, open_in, sure_at, agreed_path, means}
 use Rattle.aml_namespace.specs.Runs.{kinds_at, may_miss}
 use Rattle.aml_namespace.proofs.Finding.{found_holds}
@@ -29,7 +29,6 @@ use Rattle.aml_load.specs.Declaring.{◌>>=◌, Listed, plus, byte_of, body_span
 use Rattle.aml_load.specs.Declaring.{entry_at, new_at, method_at, alias_at, external_at, units_at, lead_of, declare_as}
 use Rattle.aml_load.specs.Declaring.{most_methods}
 use Rattle.aml_load.specs.Loading.{kind_of, parent_of, sure_here, sure_with, plain_entry, method_entry}
-use Rattle.aml_namespace.specs.Namespace.{target_by}
 use Rattle.aml_load.specs.Loading.{alias_entry, methods_of}
 use Rattle.aml_load.specs.declared.faults.LoadFault.TheVariants as loads
 use Rattle.aml_load.specs.Running.{Front, in_path, opened_by, opened_at, object_at, scope_at, enter_as}

@@ -21,12 +21,11 @@ use Rattle.aml_code.specs.Tree.{Tree, nothing, named, op, Trees, no_trees, tree_
 use Rattle.aml_namespace.specs.Kinds.{Kind}
 use Rattle.aml_namespace.specs.declared.kinds.Kind.TheVariants as kinds
 use Rattle.aml_namespace.specs.Predefined.{predefined}
-use Rattle.aml_namespace.specs.Namespace.{Entry, Namespace, namespace_of, same_path, kind_at, decides}
+use Rattle.aml_namespace.specs.Namespace.{Entry, Namespace, namespace_of, same_path, kind_at, decides, target_by}
 use Rattle.aml_namespace.specs.Runs.{opens_scope, is_alias, leads, stands, means, Finds}
 use Rattle.aml_namespace.proofs.Finding.{found_holds}
 use Rattle.aml_namespace.proofs.Growing.{declaring, declared_more}
 use Rattle.aml_load.specs.Declaring.{byte_of, first_label, target_of}
-use Rattle.aml_namespace.specs.Namespace.{target_by}
 use Rattle.aml_load.specs.Loading.{role_of, kind_of}
 use Rattle.aml_runs.specs.TableRuns.{is_passed, with_path, gained_at, path_in, found_in, units_gained, alias_gained}
 use Rattle.aml_runs.specs.TableRuns.{RunsInside, RunsObject, may_open, RunsScope, RunsAs, Runs, RunTail, RunTerms}

@@ -21,9 +21,8 @@ use Rattle.aml_namespace.specs.Namespace.{Entry, declares}
 use Rattle.aml_load.specs.declared.faults.LoadFault.{LoadFault}
 use Rattle.aml_load.specs.Declaring.{Listed, place_at, entry_at, declare_as, method_at, new_at, alias_at, lead_at}
 use Rattle.aml_load.specs.Declaring.{uses_at}
-use Rattle.aml_load.specs.Loading.{role_of}
+use Rattle.aml_load.specs.Loading.{role_of, LoadsTo}
 use Rattle.aml_load.specs.Running.{entered_at, enter_as, object_at, scope_at, opened_at}
-use Rattle.aml_load.specs.Loading.{LoadsTo}
 use Rattle.aml_load.specs.Tables.{StopsFor, load_at, tables_at, table_at, LoadsForward}
 use Rattle.aml_runs.specs.TableRuns.{IsRunOf}
 use Rattle.aml_runs.specs.Worked.{unsourced_code, unsourced_terms, unsourced_run, path, dev0_bar, new, terms_of}

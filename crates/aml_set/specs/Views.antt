@@ -7,8 +7,7 @@ use Rattle.aml_code.specs.Tree.{Trees, slice_of, encodings}
 use Rattle.aml_code.specs.View.{nodes_view}
 use Rattle.aml_set.specs.declared.loaded.Loaded.{Loaded}
 use Rattle.aml_set.specs.declared.methods.Method.{Method}
-use Rattle.aml_set.specs.Methods.{methods_in}
-use Rattle.aml_set.specs.Methods.{Method as Declared}
+use Rattle.aml_set.specs.Methods.{methods_in, Method as Declared}
 use Rattle.aml_set.specs.declared.tables.Table.{Table}
 use Rattle.aml_set.specs.declared.tables.TableSet.{TableSet}
 

@@ -1,10 +1,9 @@
 -- The definition blocks of tables: as many as each of their lists has, and at each place the block of the name, the AML
 -- and the terms there. So a loop over the places prints them all.
 use Rattle.aml_text.proofs.Common.{◌≡◌, ℕ, zero, suc, ◌+◌, ◌<◌, List, [], ◌∷◌, ◌++◌, length, get_or, zip, min, drop}
-use Rattle.aml_text.proofs.Common.{refl, sym, ap, ◌∙◌, append_assoc, arith}
-use Rattle.aml_text.proofs.Common.{length-map, drop_more, length-zip, nodes_view, Dump, name_of, Table, table_dumps}
-use Rattle.aml_text.proofs.Common.{table_codes, table_terms}
-use Rattle.aml_text.proofs.Common.{OneBlock, BodyLines, left_all, block_text, blocks_text, names_in, a_block, blocks_of}
+use Rattle.aml_text.proofs.Common.{refl, sym, ap, ◌∙◌, append_assoc, arith, length-map, drop_more, length-zip}
+use Rattle.aml_text.proofs.Common.{nodes_view, Dump, name_of, Table, table_dumps, table_codes, table_terms, OneBlock}
+use Rattle.aml_text.proofs.Common.{BodyLines, left_all, block_text, blocks_text, names_in, a_block, blocks_of}
 use Rattle.aml_code.specs.Tree.{Trees}
 
 pub blocks_many : (names codes : List (List ℕ)) (terms : List Trees)

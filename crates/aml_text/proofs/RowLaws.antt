@@ -1,11 +1,10 @@
 -- Segments that are printed in parts: with a dot between two parts they are those of the whole (`dotted_join`).
 use Rattle.aml_text.proofs.Common.{◌≡◌, ℕ, List, [], ◌∷◌, ◌++◌, map, flat_map, length, sym, ap, ◌∙◌, append_assoc, Seg}
-use Rattle.aml_text.proofs.Common.{word, ◌≤◌, arith}
+use Rattle.aml_text.proofs.Common.{word, ◌≤◌, arith, refl}
 use Rattle.std.proofs.lemmas.List.{map-append}
 use Rattle.std.proofs.lemmas.List.Concat.{flat_map-append}
 use Rattle.text_writer.proofs.PrintLaws.{straight}
 use Rattle.aml_namespace.specs.Known.{Declared}
-use Rattle.aml_text.proofs.Common.{refl}
 use Rattle.aml_text.specs.Rows.{marked_text}
 unfoldable use Rattle.aml_text.specs.Rows.{path_text, row_line}
 unfoldable use Rattle.asl_text.specs.Texts.{separated, line, indent}

@@ -1,7 +1,6 @@
 -- Bodies that print the same lines at their levels give the same blocks.
 use Rattle.aml_text.proofs.Common.{◌≡◌, ℕ, List, [], ◌∷◌, ◌++◌, refl, ap, word, quoted, block, BodyLines, all_levels}
-use Rattle.aml_text.proofs.Common.{levels_of, left_all, block_text}
-use Rattle.aml_text.proofs.Common.{blocks_text, blocks_of}
+use Rattle.aml_text.proofs.Common.{levels_of, left_all, block_text, blocks_text, blocks_of}
 use Rattle.aml_code.specs.Tree.{Trees}
 use Rattle.asl_text.proofs.LevelLaws.{AgreeAt, same_all, behind_agree}
 

@@ -1,10 +1,10 @@
 //! The namespace: a line for each declared path.
 #![tactic(auto, using(crate::proofs::RowLaws::printing))]
 
-ghost use Rattle.std.specs.Prelude.{◌≡◌, ◌≤◌, ◌++◌, ◌∷◌, false, length, decimal, flat_map, map as map_list};
+ghost use Rattle.std.specs.Prelude.{◌≡◌, ◌≤◌, ◌++◌, ◌∷◌, false, length, decimal, flat_map};
 ghost use Rattle.std.specs.FinMap as map;
 ghost use Rattle.text_writer.specs.Prints.{Prints, word};
-ghost use Rattle.asl_text.specs.Texts.{line, segment_text, separated};
+ghost use Rattle.asl_text.specs.Texts.{line};
 ghost use Rattle.aml_text.specs.Rows.{path_text, kind_text, maybe_text, times_text, marked_text, row_line};
 ghost use Rattle.aml_text.specs.Rows.{namespace_text};
 

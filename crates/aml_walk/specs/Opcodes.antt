@@ -11,16 +11,15 @@ use Rattle.aml_walk.specs.declared.opcodes.TheConstants.{METHOD, MUTEX, OPERATIO
 use Rattle.aml_walk.specs.declared.opcodes.TheConstants.{THERMAL_ZONE, BREAK, BREAK_POINT, CONTINUE, FATAL, IF, ELSE}
 use Rattle.aml_walk.specs.declared.opcodes.TheConstants.{NOOP, NOTIFY, RELEASE, RESET, RETURN, SIGNAL, SLEEP, STALL}
 use Rattle.aml_walk.specs.declared.opcodes.TheConstants.{UNLOAD, WHILE, ACQUIRE, ADD, AND, CONCATENATE}
-use Rattle.aml_walk.specs.declared.opcodes.TheConstants.{CONCATENATE_RES_TEMPLATE, COND_REF_OF, COPY_OBJECT}
-use Rattle.aml_walk.specs.declared.opcodes.TheConstants.{DECREMENT, DEREF_OF, DIVIDE, FIND_SET_LEFT_BIT}
-use Rattle.aml_walk.specs.declared.opcodes.TheConstants.{FIND_SET_RIGHT_BIT, FROM_BCD, INCREMENT, INDEX, LAND, LEQUAL}
-use Rattle.aml_walk.specs.declared.opcodes.TheConstants.{LGREATER, LLESS, MID, LNOT, LOAD, LOAD_TABLE, LOR, MATCH}
-use Rattle.aml_walk.specs.declared.opcodes.TheConstants.{MOD, MULTIPLY, NAND, NOR, NOT, OBJECT_TYPE, OR, REF_OF}
-use Rattle.aml_walk.specs.declared.opcodes.TheConstants.{SHIFT_LEFT, SHIFT_RIGHT, SIZE_OF, STORE, SUBTRACT, TIMER}
-use Rattle.aml_walk.specs.declared.opcodes.TheConstants.{TO_BCD, TO_BUFFER, TO_DECIMAL_STRING, TO_HEX_STRING}
-use Rattle.aml_walk.specs.declared.opcodes.TheConstants.{TO_INTEGER, TO_STRING, WAIT, XOR, ARG0, ARG1, ARG2, ARG3}
-use Rattle.aml_walk.specs.declared.opcodes.TheConstants.{ARG4, ARG5, ARG6, LOCAL0, LOCAL1, LOCAL2, LOCAL3, LOCAL4}
-use Rattle.aml_walk.specs.declared.opcodes.TheConstants.{LOCAL5, LOCAL6, LOCAL7, DEBUG}
+use Rattle.aml_walk.specs.declared.opcodes.TheConstants.{CONCATENATE_RES_TEMPLATE, COND_REF_OF, COPY_OBJECT, DECREMENT}
+use Rattle.aml_walk.specs.declared.opcodes.TheConstants.{DEREF_OF, DIVIDE, FIND_SET_LEFT_BIT, FIND_SET_RIGHT_BIT}
+use Rattle.aml_walk.specs.declared.opcodes.TheConstants.{FROM_BCD, INCREMENT, INDEX, LAND, LEQUAL, LGREATER, LLESS, MID}
+use Rattle.aml_walk.specs.declared.opcodes.TheConstants.{LNOT, LOAD, LOAD_TABLE, LOR, MATCH, MOD, MULTIPLY, NAND, NOR}
+use Rattle.aml_walk.specs.declared.opcodes.TheConstants.{NOT, OBJECT_TYPE, OR, REF_OF, SHIFT_LEFT, SHIFT_RIGHT, SIZE_OF}
+use Rattle.aml_walk.specs.declared.opcodes.TheConstants.{STORE, SUBTRACT, TIMER, TO_BCD, TO_BUFFER, TO_DECIMAL_STRING}
+use Rattle.aml_walk.specs.declared.opcodes.TheConstants.{TO_HEX_STRING, TO_INTEGER, TO_STRING, WAIT, XOR, ARG0, ARG1}
+use Rattle.aml_walk.specs.declared.opcodes.TheConstants.{ARG2, ARG3, ARG4, ARG5, ARG6, LOCAL0, LOCAL1, LOCAL2, LOCAL3}
+use Rattle.aml_walk.specs.declared.opcodes.TheConstants.{LOCAL4, LOCAL5, LOCAL6, LOCAL7, DEBUG}
 
 -- an opcode and its mnemonic
 pub record Titled : Type 0 where

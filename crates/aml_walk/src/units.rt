@@ -1,5 +1,5 @@
 //! From a path to the unit of a field list.
-ghost use Rattle.std.specs.Prelude.{◌≡◌, ◌++◌, ◌∷◌, [], IfOk};
+ghost use Rattle.std.specs.Prelude.{◌≡◌, IfOk};
 ghost use Rattle.std.specs.List.{find};
 ghost use Rattle.aml_load.specs.Standings.{standing_view, standings_view};
 ghost use Rattle.aml_namespace.specs.Known.{path_at};

@@ -1,18 +1,16 @@
 -- The heads of methods, and the bodies that are left, as the printing functions print and answer them.
 use Rattle.asl_text.proofs.Common.{◌≡◌, ℕ, List, ◌∷◌, ◌++◌, drop, length, append_assoc, Vec, Option, Some, None, sym}
-use Rattle.asl_text.proofs.Common.{ap, ◌∙◌, drop-drop, length-append, Global}
-use Rattle.asl_text.proofs.Common.{Name, PkgWidth, Field, Node, Nothing, Named, Op, Part, node_view, nodes_view}
-use Rattle.asl_text.proofs.Common.{tail_view, deeper, method_text, method_head_by}
-use Rattle.asl_text.proofs.Common.{BodyLines, levels_in, tail_levels, all_levels, behind, term_lines, terms_lines}
+use Rattle.asl_text.proofs.Common.{ap, ◌∙◌, drop-drop, length-append, Global, Name, PkgWidth, Field, Node, Nothing}
+use Rattle.asl_text.proofs.Common.{Named, Op, Part, node_view, nodes_view, tail_view, deeper, method_text}
+use Rattle.asl_text.proofs.Common.{method_head_by, BodyLines, levels_in, tail_levels, all_levels, behind, term_lines}
+use Rattle.asl_text.proofs.Common.{terms_lines, word, decimal, refl}
 use Rattle.aml_code.specs.declared.tree.Tail.{Tail}
 use Rattle.aml_code.proofs.Views.{view-Nothing, view-Named, view-Op, view-tail-Empty, view-tail-Terms, view-tail-Bytes}
-use Rattle.aml_code.proofs.Views.{view-tail-Elements, view-tail-Fields}
-use Rattle.aml_code.proofs.Views.{view-tail-Body}
+use Rattle.aml_code.proofs.Views.{view-tail-Elements, view-tail-Fields, view-tail-Body}
 use Rattle.aml_code.specs.declared.tree.Tail as tails
 use Rattle.text_writer.proofs.PrintLaws.{straight}
 use Rattle.asl_text.proofs.LineLaws.{nodes, tails_with}
 use Rattle.std.specs.Prelude.{◌%◌, ◌/◌}
-use Rattle.asl_text.proofs.Common.{word, decimal, refl}
 use Rattle.asl_text.specs.Texts.{serialized_text}
 unfoldable use Rattle.asl_text.specs.Texts.{flags_text}
 

@@ -1,8 +1,7 @@
 -- The lines of bodies, as the printing functions print them.
 use Rattle.asl_text.proofs.Common.{◌≡◌, ℕ, List, [], ◌∷◌, length, map, Vec, Result, Ok, Err, refl, ap, nodes_view}
-use Rattle.asl_text.proofs.Common.{Global, CodeFault, Node, Body, BodyText}
-use Rattle.asl_text.proofs.Common.{line, raw_text, BodyLines, body_lines, first_lines, all_lines, body_view, kept_lines}
-use Rattle.asl_text.proofs.Common.{printed_lines}
+use Rattle.asl_text.proofs.Common.{Global, CodeFault, Node, Body, BodyText, line, raw_text, BodyLines, body_lines}
+use Rattle.asl_text.proofs.Common.{first_lines, all_lines, body_view, kept_lines, printed_lines}
 use Rattle.asl_text.specs.declared.bodies.Body.TheVariants as bodies
 use Rattle.asl_text.specs.declared.bodies.BodyText.TheVariants as texts
 use Rattle.text_writer.proofs.PrintLaws.{straight}

@@ -1,8 +1,7 @@
 -- The lines of a term end with a newline.
 use Rattle.asl_text.proofs.Common.{◌≡◌, ℕ, ◌-◌, None, List, [], ◌++◌, length, take, append_assoc, refl, sym, ap, ◌∙◌}
-use Rattle.asl_text.proofs.Common.{arith, length-append, take-append_seam}
-use Rattle.asl_text.proofs.Common.{word, head_of, inline, tail_text, field_lines, deeper, indent, line, opening, block}
-use Rattle.asl_text.proofs.Common.{lines, op_lines, all_lines}
+use Rattle.asl_text.proofs.Common.{arith, length-append, take-append_seam, word, head_of, inline, tail_text}
+use Rattle.asl_text.proofs.Common.{field_lines, deeper, indent, line, opening, block, lines, op_lines, all_lines}
 use Rattle.aml_code.specs.Tree.{Tree, op, Parts, Tail, terms, fields, body}
 
 abbrev Ends : List ℕ → Type 0

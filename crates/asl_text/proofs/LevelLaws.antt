@@ -1,8 +1,7 @@
 -- Terms have the same lines with all bodies that print the same at their levels.
 use Rattle.asl_text.proofs.Common.{◌≡◌, ℕ, Some, List, [], ◌∷◌, ◌++◌, append_assoc, refl, ap, subst, head_of}
-use Rattle.asl_text.proofs.Common.{method_head, deeper, block, BodyLines}
-use Rattle.asl_text.proofs.Common.{first_lines, levels_in, tail_levels, all_levels, behind, term_lines, op_lines}
-use Rattle.asl_text.proofs.Common.{terms_lines}
+use Rattle.asl_text.proofs.Common.{method_head, deeper, block, BodyLines, first_lines, levels_in, tail_levels}
+use Rattle.asl_text.proofs.Common.{all_levels, behind, term_lines, op_lines, terms_lines}
 use Rattle.aml_code.specs.Tree.{slice_of, Tree, op, Trees, no_trees, tree_more, Parts, Tail, terms, body}
 
 -- bodies print the same lines at these levels

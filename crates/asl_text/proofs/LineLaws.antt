@@ -1,27 +1,23 @@
 -- The lines of each variant, as the printing functions print them.
 use Rattle.asl_text.proofs.Common.{◌≡◌, ℕ, ◌+◌, ◌<◌, List, [], ◌∷◌, ◌++◌, append-nil, append_assoc, get_or, take}
-use Rattle.asl_text.proofs.Common.{length, Vec, Option, Some, None, refl, sym}
-use Rattle.asl_text.proofs.Common.{ap, ◌∙◌, decimal, Global, Name, Seg, PkgWidth, Field, Link, Node, Nothing, Named, Op}
-use Rattle.asl_text.proofs.Common.{Part, node_view, nodes_view}
+use Rattle.asl_text.proofs.Common.{length, Vec, Option, Some, None, refl, sym, ap, ◌∙◌, decimal, Global, Name, Seg}
+use Rattle.asl_text.proofs.Common.{PkgWidth, Field, Link, Node, Nothing, Named, Op, Part, node_view, nodes_view}
 use Rattle.asl_text.proofs.Common.{parts_view, tail_view, field_view, fields_view, link_view, word, name_text, head_of}
-use Rattle.asl_text.proofs.Common.{method_head, tail_text, inline}
-use Rattle.asl_text.proofs.Common.{indent, hex2, byte_pair, byte_end, deeper, line, opening, field_text, field_lines}
-use Rattle.asl_text.proofs.Common.{link_text, BodyLines, first_lines, lines, term_lines}
-use Rattle.asl_text.proofs.Common.{op_lines, terms_lines, all_lines}
+use Rattle.asl_text.proofs.Common.{method_head, tail_text, inline, indent, hex2, byte_pair, byte_end, deeper, line}
+use Rattle.asl_text.proofs.Common.{opening, field_text, field_lines, link_text, BodyLines, first_lines, lines}
+use Rattle.asl_text.proofs.Common.{term_lines, op_lines, terms_lines, all_lines}
 use Rattle.aml_code.specs.declared.tree.Tail.{Tail}
 use Rattle.aml_code.specs.Tree.{Parts, slice_of}
 use Rattle.aml_code.proofs.Views.{view-Nothing, view-Named, view-Op, view-tail-Empty, view-tail-Terms, view-tail-Bytes}
-use Rattle.aml_code.proofs.Views.{view-tail-Elements, view-tail-Fields}
-use Rattle.aml_code.proofs.Views.{view-tail-Body, view-field-NamedUnit, view-field-Reserved, view-field-Access}
-use Rattle.aml_code.proofs.Views.{view-field-Connection, view-field-Extended}
+use Rattle.aml_code.proofs.Views.{view-tail-Elements, view-tail-Fields, view-tail-Body, view-field-NamedUnit}
+use Rattle.aml_code.proofs.Views.{view-field-Reserved, view-field-Access, view-field-Connection, view-field-Extended}
 use Rattle.aml_code.proofs.Views.{view-link-Target, view-link-Buffer}
 use Rattle.aml_code.specs.declared.tree.Field as units
 use Rattle.aml_code.specs.declared.tree.Link as joints
 use Rattle.aml_code.specs.declared.tree.Tail as tails
 use Rattle.aml_code.specs.Tree as trees
-use Rattle.asl_text.proofs.TextLaws.{grown}
+use Rattle.asl_text.proofs.TextLaws.{grown, indents}
 use Rattle.text_writer.proofs.PrintLaws.{straight}
-use Rattle.asl_text.proofs.TextLaws.{indents}
 
 -- ---- connections and units
 

@@ -1,16 +1,13 @@
 -- The text of each variant of a node, as the printing functions print it.
 use Rattle.asl_text.proofs.Common.{◌≡◌, ℕ, Bool, true, false, cond, List, [], ◌∷◌, ◌++◌, map, length, Vec, Option, Some}
-use Rattle.asl_text.proofs.Common.{None, refl, ap}
-use Rattle.asl_text.proofs.Common.{◌∙◌, nil_from_length, Global, Name, PkgWidth, Row, Field, Node, Nothing, Named, Op}
-use Rattle.asl_text.proofs.Common.{Part, node_view, nodes_view, part_view}
-use Rattle.asl_text.proofs.Common.{parts_view, tail_view, word, hex2, hex4, hex8, hex16, quoted, name_text, joined}
-use Rattle.asl_text.proofs.Common.{arguments_text, braced}
+use Rattle.asl_text.proofs.Common.{None, refl, ap, ◌∙◌, nil_from_length, Global, Name, PkgWidth, Row, Field, Node}
+use Rattle.asl_text.proofs.Common.{Nothing, Named, Op, Part, node_view, nodes_view, part_view, parts_view, tail_view}
+use Rattle.asl_text.proofs.Common.{word, hex2, hex4, hex8, hex16, quoted, name_text, joined, arguments_text, braced}
 use Rattle.asl_text.proofs.Common.{is_constant, head_of, head_text, inline, inlines, part_text, part_texts, tail_text}
 use Rattle.aml_code.specs.declared.tree.Tail.{Tail}
 use Rattle.aml_code.proofs.Views.{view-Nothing, view-Named, view-Op, view-part-Child, view-part-Label, view-part-Byte}
-use Rattle.aml_code.proofs.Views.{view-part-Word, view-part-Dword}
-use Rattle.aml_code.proofs.Views.{view-part-Qword, view-part-Text, view-tail-Empty, view-tail-Terms, view-tail-Bytes}
-use Rattle.aml_code.proofs.Views.{view-tail-Elements, view-tail-Fields}
+use Rattle.aml_code.proofs.Views.{view-part-Word, view-part-Dword, view-part-Qword, view-part-Text, view-tail-Empty}
+use Rattle.aml_code.proofs.Views.{view-tail-Terms, view-tail-Bytes, view-tail-Elements, view-tail-Fields}
 use Rattle.aml_code.proofs.Views.{view-tail-Body}
 use Rattle.aml_code.specs.declared.tree.Part as parts
 use Rattle.aml_code.specs.declared.tree.Tail as tails

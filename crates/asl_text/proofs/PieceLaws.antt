@@ -17,8 +17,7 @@ use Rattle.aml_code.specs.Opcodes.{Row, rows, row_of, takes}
 use Rattle.aml_code.specs.Tree.{Tree, nothing, named, op, Trees, no_trees, tree_more, tree_count, Part, child, label}
 use Rattle.aml_code.specs.Tree.{byte, dword, qword, text, Parts, no_parts, part_more, Tail, empty, terms, bytes}
 use Rattle.aml_code.specs.Tree.{elements, fields, body, Field, unit, reserved, access, connection, extended, Fields}
-use Rattle.aml_code.specs.Tree.{no_fields, field_more, Link, target, buffer}
-use Rattle.aml_code.specs.Tree.{word as word_part}
+use Rattle.aml_code.specs.Tree.{no_fields, field_more, Link, target, buffer, word as word_part}
 use Rattle.aml_code.specs.Faults.{Arities, most_levels}
 use Rattle.aml_code.specs.Lawful.{Setting, IsLawful, AreTerms, IsTail, IsPart, AreParts, AreFields, ReadsBody, after}
 use Rattle.aml_code.specs.Lawful.{next_position, terms_in, tail_in, setting_of}
@@ -31,8 +30,7 @@ use Rattle.aml_code.proofs.Takers.{taker_takes}
 use Rattle.asl_text.specs.Pieces.{piece_text}
 unfoldable use Rattle.asl_text.specs.Pieces.{opened, closed, row_opening, row_closing}
 use Rattle.asl_text.specs.Texts.{name_text, joined, is_constant, inline, inlines, part_text, part_texts, tail_text}
-use Rattle.asl_text.specs.Texts.{block, field_text, field_lines, op_lines, term_lines, all_lines}
-use Rattle.asl_text.specs.Texts.{head_of}
+use Rattle.asl_text.specs.Texts.{block, field_text, field_lines, op_lines, term_lines, all_lines, head_of}
 unfoldable use Rattle.asl_text.specs.Texts.{separated, arguments_text, braced, head_text, indent, line, opening}
 use Rattle.text_writer.specs.Prints.{word}
 

@@ -12,9 +12,8 @@ use Rattle.aml_code.specs.declared.rows.Position.TheVariants as positions
 use Rattle.aml_code.specs.declared.rows.TailKind.{TailKind}
 use Rattle.aml_code.specs.declared.rows.TailKind.TheVariants as tails
 use Rattle.aml_code.specs.Opcodes.{Row, rows, row_of, takes}
-use Rattle.aml_code.specs.Tree.{Tree, nothing, named, op, Trees, no_trees, tree_more, tree_count, Part, child}
-use Rattle.aml_code.specs.Tree.{Parts, no_parts, part_more, Tail, terms}
-use Rattle.aml_code.specs.Tree.{elements, fields, body, Field, connection, Fields}
+use Rattle.aml_code.specs.Tree.{Tree, nothing, named, op, Trees, no_trees, tree_more, tree_count, Part, child, Parts}
+use Rattle.aml_code.specs.Tree.{no_parts, part_more, Tail, terms, elements, fields, body, Field, connection, Fields}
 use Rattle.aml_code.specs.Tree.{no_fields, field_more, Link, target, buffer}
 use Rattle.aml_code.specs.Lawful.{Setting, IsLawful, AreTerms, IsTail, IsPart, AreParts, AreFields, after}
 use Rattle.aml_code.specs.Lawful.{next_position, terms_in}

@@ -1,10 +1,8 @@
 -- Texts of lists, as loops print them.
-use Rattle.std.proofs.Common.{◌≤◌, ◌-◌, drop, sym, arith}
+use Rattle.std.proofs.Common.{◌≤◌, ◌-◌, drop, sym, arith, zero, suc, ◌*◌, ◌/◌, ◌%◌}
 use Rattle.asl_text.proofs.Common.{◌≡◌, ℕ, ◌+◌, ◌<◌, add-one, append-nil, List, [], ◌∷◌, ◌++◌, get_or, map, flat_map}
-use Rattle.asl_text.proofs.Common.{append_assoc, length, take, refl, ap, ◌∙◌, take_more}
-use Rattle.std.proofs.Common.{zero, suc, ◌*◌, ◌/◌, ◌%◌}
-use Rattle.asl_text.proofs.Common.{map-append, nil_from_length, flat_map-append, word, indent, separated}
-use Rattle.asl_text.proofs.Common.{Name, cond, replicate}
+use Rattle.asl_text.proofs.Common.{append_assoc, length, take, refl, ap, ◌∙◌, take_more, map-append, nil_from_length}
+use Rattle.asl_text.proofs.Common.{flat_map-append, word, indent, separated, Name, cond, replicate}
 use Rattle.asl_text.specs.Texts.{segment_text}
 unfoldable use Rattle.asl_text.specs.Texts.{prefix_text, name_text}
 use Rattle.text_writer.proofs.PrintLaws.{straight}

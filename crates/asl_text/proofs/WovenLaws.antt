@@ -1,7 +1,6 @@
 -- A text with places in it, with the lines of bodies woven in, as it grows.
-use Rattle.asl_text.proofs.Common.{◌≡◌, ℕ, ◌+◌, ◌-◌, List, [], ◌∷◌, ◌++◌, length, take, drop, append_assoc}
-use Rattle.asl_text.proofs.Common.{append-nil, sym, ap, ◌∙◌, arith, drop-drop}
-use Rattle.asl_text.proofs.Common.{BodyLines, first_lines}
+use Rattle.asl_text.proofs.Common.{◌≡◌, ℕ, ◌+◌, ◌-◌, List, [], ◌∷◌, ◌++◌, length, take, drop, append_assoc, append-nil}
+use Rattle.asl_text.proofs.Common.{sym, ap, ◌∙◌, arith, drop-drop, BodyLines, first_lines}
 use Rattle.std.proofs.Common.{◌≤◌, false, suc}
 use Rattle.std.proofs.lemmas.List.{take-append-le, drop-append-le, length-drop, take_all, drop_all}
 use Rattle.aml_code.specs.Tree.{slice_of}

@@ -1,7 +1,7 @@
 //! The text of a table's terms, told piece by piece, and the places in it where the bodies of methods go.
 #![tactic(auto, using(text_writer::proofs::PrintLaws::straight))]
 
-ghost use Rattle.std.specs.Prelude.{◌≡◌, [], ◌∷◌, ℕ, List, Some, OnOk, IfOk, IfErr, IfSome};
+ghost use Rattle.std.specs.Prelude.{◌≡◌, [], ◌∷◌, List, Some, OnOk, IfOk, IfErr, IfSome};
 ghost use Rattle.aml_code.specs.Opcodes.{row_view};
 ghost use Rattle.aml_code.specs.Pieces.{Told, line, tail, piece_view};
 ghost use Rattle.aml_code.specs.declared.pieces.Piece.TheVariants as Piece;

@@ -5,7 +5,7 @@ ghost use Rattle.std.specs.Prelude.{◌≡◌, ◌++◌, Some, map};
 ghost use Rattle.aml_code.specs.Opcodes.{row_view};
 ghost use Rattle.aml_code.specs.View.{node_view, nodes_view, part_view, parts_view, tail_view};
 ghost use Rattle.text_writer.specs.Prints.{Prints, word, hex2, hex4, hex8, hex16};
-ghost use Rattle.asl_text.specs.Texts.{name_text, joined, arguments_text, braced, is_constant, head_of, head_text};
+ghost use Rattle.asl_text.specs.Texts.{name_text, arguments_text, braced, is_constant, head_of, head_text};
 ghost use Rattle.asl_text.specs.Texts.{inline, inlines, part_text, part_texts, tail_text};
 
 use crate::inline::{Inline, print_separated};

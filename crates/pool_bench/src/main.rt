@@ -4,7 +4,7 @@
 //! of 100 microseconds each. `answer WORKERS COUNT` prints `whole`, `no thread`, `no memory` or `wrong`.
 #![tactic(auto)]
 
-ghost use Rattle.std.specs.Prelude.{◌≡◌, ℕ, ◌<◌, ◌≤◌, ⊤};
+ghost use Rattle.std.specs.Prelude.{◌<◌, ⊤};
 
 use aml_pool::{FreeGate, NoMemory, PoolFault, Results, Work, harvest};
 use std::alloc::Global;

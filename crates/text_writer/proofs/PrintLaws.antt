@@ -3,10 +3,9 @@
 -- and what its caller learns at the end.
 use Prim.Native.String.{String}
 use Rattle.std.proofs.Common.{codes, flat_map, get_or, subst, ◌≡◌, ℕ, ◌+◌, ◌-◌, ◌^◌, ◌<◌, ◌≤◌, min, length-take, List}
-use Rattle.std.proofs.Common.{[], ◌∷◌, ◌++◌, length, take, drop, Bool}
-use Rattle.std.proofs.Common.{true, false, nat_lt, Result, Ok, Err, OnOk, IfErr, Option, append-nil, refl, sym, ap, ◌∙◌}
-use Rattle.std.proofs.Common.{append_assoc, length-append}
-use Rattle.std.proofs.Common.{length-drop, take-append-drop, arith}
+use Rattle.std.proofs.Common.{[], ◌∷◌, ◌++◌, length, take, drop, Bool, true, false, nat_lt, Result, Ok, Err, OnOk}
+use Rattle.std.proofs.Common.{IfErr, Option, append-nil, refl, sym, ap, ◌∙◌, append_assoc, length-append, length-drop}
+use Rattle.std.proofs.Common.{take-append-drop, arith}
 use Rattle.std.specs.Io.KnownBytes.{Appends}
 use Rattle.std.proofs.KnownBytes.{Appends-nil, Appends-trans}
 use Rattle.std.proofs.Math.Seq.{take-add}

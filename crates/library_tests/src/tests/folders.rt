@@ -1,6 +1,5 @@
 //! Folders kept in memory, of whose calls each fails in turn.
 ghost use Rattle.std.specs.Prelude.{◌≡◌, ⊤, IfErr};
-ghost use Rattle.acpi_folder.specs.Folders.{Answers};
 ghost use Rattle.acpi_folder.specs.declared.folder.FolderFault.TheVariants.{Failed};
 
 use acpi_folder::{Folder, FolderFault, GatherFault, gather};

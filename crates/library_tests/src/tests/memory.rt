@@ -2,9 +2,6 @@
 //!
 //! `tests/refusals.py` runs each of these tests again and again, with each growth refused in turn. Where none is
 //! refused the answer has to be whole.
-ghost use Rattle.std.specs.Prelude.{◌≤◌};
-ghost use Rattle.aml_set.specs.Code.{AreShort};
-ghost use Rattle.aml_set.specs.Views.{codes_view};
 
 use super::fixtures::{
     Bare, OfListing, OfLoad, Want, are_trees, codes, dsdt_of, has_share, has_squares,

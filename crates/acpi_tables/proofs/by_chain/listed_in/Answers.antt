@@ -1,6 +1,5 @@
 use Rattle.acpi_tables.proofs.Common.{◌≡◌, ℕ, Bool, true, false, List, nat_eq, map, ap, sym, ◌∙◌, arith, list_any}
-use Rattle.acpi_tables.proofs.Common.{range_with_len, address_at, address_count, address_width}
-use Rattle.acpi_tables.proofs.Common.{dump_at}
+use Rattle.acpi_tables.proofs.Common.{range_with_len, address_at, address_count, address_width, dump_at}
 use Rattle.acpi_tables.proofs.Once.{listed_in, listed_none, listed_some}
 use Rattle.acpi_tables.proofs.by_chain.listed_in.Goals as goal
 use Rattle.acpi_tables.proofs.by_chain.listed_in.Goals.{in-Some+then-not-contains+in_ok-push, in-Some+else-not-contains}

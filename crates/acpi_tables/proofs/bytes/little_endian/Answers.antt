@@ -1,6 +1,5 @@
 use Rattle.acpi_tables.proofs.Common.{◌≡◌, ℕ, ◌-◌, ◌++◌, length, drop, replicate, sym, ap, ◌∙◌, arith, length-append}
-use Rattle.acpi_tables.proofs.Common.{length-replicate, drop-replicate}
-use Rattle.acpi_tables.proofs.Common.{little_endian}
+use Rattle.acpi_tables.proofs.Common.{length-replicate, drop-replicate, little_endian}
 use Rattle.acpi_tables.proofs.Numbers.{spells_eight, little_endian-padded}
 use Rattle.acpi_tables.proofs.bytes.little_endian.Goals as goal
 

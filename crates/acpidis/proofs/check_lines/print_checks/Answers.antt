@@ -1,6 +1,5 @@
 use Rattle.acpidis.proofs.Common.{zip, ◌≡◌, ◌<◌, get_or, length, sym, ◌∙◌, arith, get_or_default, prints_none}
-use Rattle.acpidis.proofs.Common.{prints_turn, prints_end, OneBlock, List}
-use Rattle.acpidis.proofs.Common.{block_view, check_line, Checked}
+use Rattle.acpidis.proofs.Common.{prints_turn, prints_end, OneBlock, List, block_view, check_line, Checked}
 use Rattle.std.proofs.lemmas.Slice.Zip.{length-zip, get_or-zip}
 use Rattle.acpidis.proofs.CheckLaws.{no_check}
 use Rattle.acpidis.proofs.check_lines.print_checks.Goals as goal

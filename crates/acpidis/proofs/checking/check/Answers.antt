@@ -1,6 +1,5 @@
 use Rattle.acpidis.proofs.Common.{ap, ◌∙◌, IfOk-weaker, codes_view, trees_view, names_in, indexes_in, blocks_in}
-use Rattle.acpidis.proofs.Common.{checks_with, tried_marks}
-use Rattle.acpidis.proofs.Common.{map, reading_of, marks_of, methods_in}
+use Rattle.acpidis.proofs.Common.{checks_with, tried_marks, map, reading_of, marks_of, methods_in}
 use Rattle.acpidis.proofs.BodyLaws.{trials_are, entries_are}
 use Rattle.acpidis.proofs.CheckLaws.{short_blocks}
 use Rattle.acpidis.proofs.checking.check.Goals as goal

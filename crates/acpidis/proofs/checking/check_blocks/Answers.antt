@@ -1,6 +1,5 @@
 use Rattle.acpidis.proofs.Common.{map_more, List, ◌≤◌, ◌++◌, ◌∷◌, ap₂, sym, Checked, [], length, ap, ◌∙◌, arith, map}
-use Rattle.acpidis.proofs.Common.{take_all, no_trees, OneBlock, block_view, uncounted}
-use Rattle.acpidis.proofs.Common.{All-get_or}
+use Rattle.acpidis.proofs.Common.{take_all, no_trees, OneBlock, block_view, uncounted, All-get_or}
 use Rattle.acpidis.proofs.checking.check_blocks.Goals as goal
 
 pub check_block-requires : goal.check_block-requires

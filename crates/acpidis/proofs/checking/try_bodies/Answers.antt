@@ -1,7 +1,6 @@
 use Rattle.acpidis.proofs.Common.{◌≡◌, ℕ, ◌+◌, ◌<◌, ◌≤◌, Bool, List, Result, length, take, ◌++◌, ◌∷◌, [], sym, ap, ◌∙◌}
-use Rattle.acpidis.proofs.Common.{subst, arith, length-take-le}
-use Rattle.acpidis.proofs.Common.{length_push, take_all, take_more, CodeFault, body_of, Body, AreKept, IsKept, IsSame}
-use Rattle.acpidis.proofs.Common.{Reading, reading_of, map, map_push, length-map}
+use Rattle.acpidis.proofs.Common.{subst, arith, length-take-le, length_push, take_all, take_more, CodeFault, body_of}
+use Rattle.acpidis.proofs.Common.{Body, AreKept, IsKept, IsSame, Reading, reading_of, map, map_push, length-map}
 use Rattle.acpidis.proofs.BodyLaws.{kept_more}
 use Rattle.acpidis.proofs.checking.try_bodies.Goals as goal
 

@@ -1,6 +1,5 @@
 use Rattle.acpidis.proofs.Common.{ℕ, List, [], ◌∷◌, ◌++◌, ◌∙◌, sym, ap, ap₂, arith, map_more, map_push, take_all}
-use Rattle.acpidis.proofs.Common.{take_more, bytes_of, Table}
-use Rattle.acpidis.proofs.Common.{table_codes, table_dumps, AreTables, codes_in}
+use Rattle.acpidis.proofs.Common.{take_more, bytes_of, Table, table_codes, table_dumps, AreTables, codes_in}
 use Rattle.acpidis.proofs.TableLaws.{aml_of, table_at, short_at}
 use Rattle.acpidis.proofs.tables.tables_of.Goals as goal
 

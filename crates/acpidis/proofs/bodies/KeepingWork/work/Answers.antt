@@ -1,5 +1,4 @@
-use Rattle.acpidis.proofs.Common.{length, refl, sym, ap, ◌∙◌, subst, IfOk-weaker, IfSome, table_codes, body_in}
-use Rattle.acpidis.proofs.Common.{ReadsIn}
+use Rattle.acpidis.proofs.Common.{length, refl, sym, ap, ◌∙◌, subst, IfOk-weaker, IfSome, table_codes, body_in, ReadsIn}
 use Rattle.std.proofs.lemmas.Option.{slice_get_read}
 use Rattle.acpidis.proofs.bodies.KeepingWork.work.Goals as goal
 

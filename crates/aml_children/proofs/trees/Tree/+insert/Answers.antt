@@ -4,8 +4,7 @@ use Rattle.aml_children.specs.declared.children.Child.{Child}
 use Rattle.aml_children.specs.Trees.{list_and_height, Rebalances}
 use Rattle.aml_children.specs.declared.trees.Fork.{Fork}
 use Rattle.aml_children.proofs.Forks.{height_is, balanced_is, left_rises, right_rises, left_shorter, right_shorter}
-use Rattle.aml_children.proofs.Forks.{at_left, at_right, at_middle}
-use Rattle.aml_children.proofs.Forks.{put_at_left, put_at_right}
+use Rattle.aml_children.proofs.Forks.{at_left, at_right, at_middle, put_at_left, put_at_right}
 use Rattle.aml_children.proofs.trees.Tree.+insert.Goals as goal
 use Rattle.aml_children.proofs.trees.Tree.+insert.Goals.{in-Less+in_ok-insert-in-Less+else-height-before, in-Equal}
 use Rattle.aml_children.proofs.trees.Tree.+insert.Goals.{in-Greater+in_ok-insert-in-Greater+else-height-before-2}
