@@ -3,34 +3,29 @@
 
 usage: bench/figures.py [ACPIDIS] [--only WORD] [--runs N] [--seconds N]
 
-ACPIDIS is the built program, out/acpidis if left out. iasl and GNU time have to be there (Debian: apt-get install
-acpica-tools time). Each program runs N times, 5 if left out, and the shortest time counts; its peak memory is that of
-one more run. A run is stopped after so many seconds, 60 if left out. Where --only leaves sets out, nothing is
-written but the section to standard output.
+iasl and GNU time have to be there (Debian: apt-get install acpica-tools time). Each program runs N times, and the
+shortest time counts; its peak memory is that of one more run. Where --only leaves sets out, nothing is written but the
+section to standard output.
 
 The sets:
   10 KB, 40 KB, 1 MB  one table each, compiled by iasl from devices with resources, fields and methods as firmware has
   16 MB               sixteen times the terms of that of 1 MB, in one table
   20,000 methods      small methods, in ascending order
   101 tables          a DSDT and 100 SSDTs of 20 methods, each of which calls those of the next table through Externals
-  one long body       a method of 1 MB: constants, texts, names and stores
-"""
+  one long body       a method of 1 MB: constants, texts, names and stores"""
 import datetime
 import math
 import os
-import pathlib
 import re
 import shutil
-import subprocess
 import sys
-import tempfile
 from collections import namedtuple
 from xml.sax.saxutils import escape
 
 import measuring
 import hostile_shapes as shapes
 from made_aml import bytes_of, tables
-from trying import PROGRAM, TOP, asked
+from trying import PROCESSORS, PROGRAM, TOP, asked, ended, new_room
 
 README = TOP / "README.md"
 PICTURE = TOP / "docs/figures.svg"
@@ -66,17 +61,15 @@ MIXED = bytes_of(
 
 
 def compiled(devices: int, times: int = 1) -> dict:
-    """A set of a DSDT with so many devices, sixteen to a bus, by iasl, as often, each time with another outermost
-    device."""
+    """A DSDT with so many devices, sixteen to a bus, by iasl, as often, each time with another outermost device."""
     text = 'DefinitionBlock ("", "DSDT", 2, "BENCH", "FIGURES", 1) {\nDevice (\\_SB.' + OUTERMOST.decode() + ") {\n"
     for first in range(0, devices, DEVICES_OF_A_BUS):
         inner = [DEVICE % {"number": number} for number in range(min(DEVICES_OF_A_BUS, devices - first))]
         text += f"Device (B{first // DEVICES_OF_A_BUS:03X}) {{ Name (_ADR, 0x{first:08X}) {''.join(inner)} }}\n"
-    with tempfile.TemporaryDirectory() as folder:
-        source = pathlib.Path(folder) / "bench.asl"
-        source.write_text(text + "} }\n")
-        subprocess.run(["iasl", "-p", "bench", source.name], cwd=folder, check=True, capture_output=True)
-        made = source.with_suffix(".aml").read_bytes()
+    with new_room() as room:
+        (room / "bench.asl").write_text(text + "} }\n")
+        ended("iasl", "-p", "bench", "bench.asl", cwd=room, check=True)
+        made = (room / "bench.aml").read_bytes()
     if times == 1:
         return {"dsdt.dat": made}
     code = made[shapes.HEADER_BYTES:]
@@ -92,38 +85,32 @@ SETS = (
     ("16 MB", lambda: compiled(2_360, 16)),
     ("20,000 methods", lambda: tables(shapes.many_methods(20_000))),
     ("101 tables", lambda: shapes.calling_tables(101, 20, 2, b"\x08\x02")),
-    # One method in 1 MB, in which the same terms stand again and again
     ("one long body", lambda: tables(shapes.method(b"MAIN", 0, MIXED * (((1 << 20) - 46) // len(MIXED))))),
 )
-
 
 # What was measured of one set; no answer where a run took too long
 Figures = namedtuple("Figures", "name size alone together iasl")
 
 
 def best(command, folder, words):
-    """The shortest of some runs, with its peak memory.
-
-    GNU time begins the command from a small process; else this one's memory would count.
-    """
+    """The shortest of some runs, with its peak memory: GNU time begins the command from a process that is small."""
     with open(folder / "text", "wb") as text, open(folder / "errors", "wb") as errors:
         how = {"stdout": text, "stderr": errors}
         answer = measuring.best(words.runs, command, folder, words.seconds, **how)
         if answer is None:
             return None
-        subprocess.run([TIME, "-q", "-f", "%M", "-o", "peak", *command], cwd=folder, check=False, **how)
+        ended(TIME, "-q", "-f", "%M", "-o", "peak", *command, cwd=folder, **how)
     return answer._replace(peak=int((folder / "peak").read_text().split()[-1]) * 1024)
 
 
 def figures_of(name, make, words):
     """The figures of a set, in a folder that is gone afterwards."""
-    with tempfile.TemporaryDirectory() as room:
-        tables, beside = pathlib.Path(room) / "tables", pathlib.Path(room) / "beside"
-        beside.mkdir()
+    with new_room() as room:
+        tables, beside = room / "tables", room / "beside"
         size = measuring.write(tables, make)
-        files = sorted(shutil.copy(path, beside) for path in tables.iterdir())
+        shutil.copytree(tables, beside)
         commands = [[words.program, "--workers", str(count), str(tables)] for count in (1, MOST_WORKERS)]
-        commands.append(["iasl", "-d", *(os.path.basename(file) for file in files)])
+        commands.append(["iasl", "-d", *sorted(file.name for file in tables.iterdir())])
         return Figures(name, size, *(best(command, beside, words) for command in commands))
 
 
@@ -143,16 +130,14 @@ def row(figures, limit):
 
 
 def section(all_figures, asked, loads, stolen):
-    processors = len(os.sched_getaffinity(0))
-    shown = subprocess.run(["iasl", "-v"], capture_output=True, text=True, check=False).stdout
-    compiler = " ".join(["iasl", *re.findall(r"version (\d+)", shown)[:1]])
+    compiler = " ".join(["iasl", *re.findall(r"version (\d+)", ended("iasl", "-v").out)[:1]])
     text = HEAD + "".join(row(figures, asked.seconds) for figures in all_figures)
     text += f"\nThe last column has one worker by processor time, and {MOST_WORKERS} by the clock."
     text += f" Measured on {datetime.date.today()} beside {compiler}, the best of {asked.runs} runs,"
-    text += f" on {processors} processors with a load of {min(loads):.1f} to {max(loads):.1f}."
+    text += f" on {PROCESSORS} processors with a load of {min(loads):.1f} to {max(loads):.1f}."
     if stolen >= STOLEN_SHARE:
         text += f" Other machines took {stolen:.0%} of the processors' time meanwhile, so the times are too high."
-    if max(loads) > BUSY_SHARE * processors:
+    if max(loads) > BUSY_SHARE * PROCESSORS:
         text += " Others worked on the machine: the times are too high, and more workers gain less than they could."
     return text + "\n"
 
@@ -173,13 +158,12 @@ def rectangle(x, y, width, height, colour, more=""):
 
 def bar(y, answer, limit, colour):
     """One bar with its label; it has an outline alone where there was no answer."""
-    outline, label = f' stroke="{colour}" stroke-dasharray="4 3"', f"not in {limit:g} s"
-    if answer:
-        limit, outline = answer.seconds, ""
-        label = f"{limit * 1000:.0f} ms" if limit < 1 else f"{limit:.1f} s"
-    width = max(across(limit) - LEFT, 1)
-    drawn = rectangle(LEFT, y, width, BAR - 2, colour if answer else PAPER, outline)
-    return drawn + text(LEFT + width + 5, y + 11, label)
+    seconds = answer.seconds if answer else limit
+    label = f"{seconds * 1000:.0f} ms" if seconds < 1 else f"{seconds:.1f} s"
+    look = (colour,) if answer else (PAPER, f' stroke="{colour}" stroke-dasharray="4 3"')
+    width = max(across(seconds) - LEFT, 1)
+    drawn = rectangle(LEFT, y, width, BAR - 2, *look)
+    return drawn + text(LEFT + width + 5, y + 11, label if answer else f"not in {limit:g} s")
 
 
 def picture(all_figures, limit):
@@ -216,8 +200,7 @@ def main():
             loads.append(os.getloadavg()[0])
             all_figures.append(figures_of(name, make, words))
             print(row(all_figures[-1], words.seconds), end="", file=sys.stderr, flush=True)
-    stolen = measuring.stolen_since(begun)
-    text = section(all_figures, words, loads, stolen)
+    text = section(all_figures, words, loads, measuring.stolen_since(begun))
     if words.only:
         print(text, end="")
         return
@@ -229,5 +212,4 @@ def main():
     PICTURE.write_text(picture(all_figures, words.seconds))
 
 
-if __name__ == "__main__":
-    main()
+main()

@@ -3,25 +3,19 @@
 
 usage: bench/hostile.py [ACPIDIS] [--only WORD] [--runs N] [--seconds N] [--large]
 
-ACPIDIS is the built program, out/acpidis if left out. For each shape one line is printed: its size; the shortest time
-of N runs, 3 if left out, at the whole size; the most memory; how many times as much processor time and memory it
-takes as at half the size; how much text that is; the status; the same of `--check`; and for sets of one table, where
-it is installed (Debian: apt-get install acpica-tools) and answers within 20 seconds, the time of `iasl -d`. A run is
-stopped after so many seconds, 120 if left out. --large adds 512 files of 16 MB each, for which the program needs 9
-GB.
+For each shape one line is printed: its size; the shortest time of N runs at the whole size; the most memory; how many
+times as much processor time and memory it takes as at half the size; how much text that is; the status; the same of
+`--check`; and for sets of one table, where it is installed (Debian: apt-get install acpica-tools) and answers within
+20 seconds, the time of `iasl -d`. --large adds 512 files of 16 MB each, for which the program needs 9 GB.
 
 A shape's time should grow no more than 2.4 times; where it does, the line ends with GROWS. The shapes with `*` may
-take 4.4 times as much: docs/limits.md says which two dimensions grow together in them.
-"""
+take 4.4 times as much: docs/limits.md says which two dimensions grow together in them."""
 import os
-import pathlib
 import shutil
-import subprocess
-import tempfile
 
 import measuring
 import hostile_shapes
-from trying import PROGRAM, asked
+from trying import PROCESSORS, PROGRAM, asked, ended, new_room
 
 MOST_GROWTH, MOST_SQUARE_GROWTH = 2.4, 4.4
 IASL_SECONDS = 20
@@ -29,17 +23,10 @@ IASL_SECONDS = 20
 LEAST_SECONDS = 0.1
 
 
-def printed_bytes(command, folder):
-    with subprocess.Popen(command, cwd=folder, stdout=subprocess.PIPE, stderr=subprocess.DEVNULL) as child:
-        return sum(map(len, iter(lambda: child.stdout.read(1 << 20), b"")))
-
-
 def answer_text(whole, half, most):
     """The time and the memory of a run, how many times those of its half they are, and whether that is too much."""
-    if whole is None:
-        return "no answer", True
-    text = f"{whole.seconds:7.2f} s {whole.peak / 1e6:6.0f} MB"
-    if half is None:
+    text = f"{whole.seconds:7.2f} s {whole.peak / 1e6:6.0f} MB" if whole else "no answer"
+    if not (whole and half):
         return text, True
     times, memory = whole.processor / max(half.processor, 0.001), whole.peak / half.peak
     return f"{text} ({times:.1f} and {memory:.1f} times)", times > most and whole.processor > LEAST_SECONDS
@@ -68,7 +55,7 @@ def run_shape(shape, compiler, work, asked):
         command = [asked.program, *shape.options(folder), str(folder)]
         for kind, words in zip(answers, (command, [*command, "--check"])):
             kind.insert(0, measuring.best(asked.runs, words, folder, asked.seconds))
-    text_bytes = printed_bytes(command, folder) if answers[0][0] else None
+    text_bytes = int(ended("sh", "-c", '"$0" "$@" | wc -c', *command, cwd=folder).out) if answers[0][0] else None
     is_one = [path.name for path in folder.iterdir()] == ["dsdt.dat"]
     iasl = measuring.best(1, [compiler, "-d", "dsdt.dat"], folder, IASL_SECONDS) if compiler and is_one else None
     print(line(shape, answers, text_bytes, iasl), flush=True)
@@ -78,12 +65,11 @@ def run_shape(shape, compiler, work, asked):
 
 def main():
     words, compiler = asked(__doc__, program=PROGRAM, only="", runs=3, seconds=120.0, large=False), shutil.which("iasl")
-    print(f"a load of {os.getloadavg()[0]:.1f} on {len(os.sched_getaffinity(0))} processors", flush=True)
-    with tempfile.TemporaryDirectory() as work:
+    print(f"a load of {os.getloadavg()[0]:.1f} on {PROCESSORS} processors", flush=True)
+    with new_room() as work:
         for shape in hostile_shapes.SHAPES:
             if words.only in shape.name and (words.large or not shape.large):
-                run_shape(shape, compiler, pathlib.Path(work), words)
+                run_shape(shape, compiler, work, words)
 
 
-if __name__ == "__main__":
-    main()
+main()

@@ -22,15 +22,13 @@ DENSE = bytes.fromhex("a472606100")  # Return (Add (Local0, Local1, ))
 
 class Shape(namedtuple("Shape", "name size unit make is_square given any_run large", defaults=[False] * 4)):
     """A set by its size, which is doubled; `is_square` where twice the size may take four times as long, `given` where
-    its runs have the option `--externals` with the set's file of that name, `any_run` where they have that option,
-    `large` where it takes 9 GB of memory."""
+    its runs have the set's file for `--externals`, `any_run` where they have that one, `large` where it takes 9 GB."""
 
     def options(self, folder):
         return [OPTION, str(folder / GIVEN)] if self.given else [ANY_RUN] if self.any_run else []
 
 
-# ---- pieces, with package lengths as short as they can be
-
+# Pieces, with package lengths as short as they can be
 package, method, scope = (partial(make, width=1) for make in (packed, made_aml.method, made_aml.scope))
 
 
@@ -90,9 +88,6 @@ def methods(count, body):
 LEAF_NAME, SEVEN, LONG_PATH = name(LEAF), b"AAAA" + b"\x60" * 7, b"\x5c\x2f\xff" + each(SEGMENTS)
 
 
-# ---- AML by how much of it there is, and by how deep it stands
-
-
 def upward(count, depth, own=b""):
     """So many names at the root, and as many uses of them in a method of a scope of so many segments."""
     return named(count) + within(depth, main_method(own + uses(count)))
@@ -125,8 +120,7 @@ def regions(count, depth, value):
 
 def deep_methods(count, depth):
     """Methods there, each of which calls another."""
-    calls = (method(segment(number), 0, segment(count - number - 1)) for number in range(count))
-    return within(depth, b"".join(calls))
+    return within(depth, b"".join(method(segment(number), 0, segment(count - number - 1)) for number in range(count)))
 
 
 def deep_owners(count, own):
@@ -150,7 +144,6 @@ def deep_root_uses(count, depth):
 
 
 def field(count):
-    """A Field of so many units."""
     return package(b"\x5b\x81", LEAF + b"\0" + each(count, lambda it: it + b"\x08"))
 
 
@@ -179,11 +172,7 @@ def indented(count, levels):
     return main_method(around(levels, lambda code: package(b"\xa0", b"\x60" + code), b"\xa3" * count))
 
 
-# ---- code outside methods
-
-
 def blocks(count, levels):
-    """So many names in Ifs that stand one in the other."""
     return around(levels, block, named(count))
 
 
@@ -192,16 +181,12 @@ def maybe_aliases(count):
     return method(LEAF, 1, b"") + block(alias(NEAR)) * count + main_method((NEAR + b"\x01") * count)
 
 
-# ---- much of the same
-
-
 def many_methods(count):
     return each(count, lambda name: method(name, 2, bytes.fromhex("7068607261696aa460")))
 
 
 def devices(count):
-    """So many methods, 20 in each Device of a bus, which name a method beside them and one at the root; and as many
-    Packages of constants."""
+    """Methods, 20 in each Device of a bus, which name one beside them and one at the root; and as many Packages."""
     bodies = (b"\x70" + segment((number + 1) % 20) + b"\x60\xa4GLOB" for number in range(20))
     inner = b"".join(method(segment(number), 0, body) for number, body in enumerate(bodies))
     inner += b"".join(name(segment(20 + number), b"\x12\x08\x04\x0a\x05\x00\x01\x0a\x06") for number in range(20))
@@ -213,9 +198,6 @@ def buffer(size):
     return name(b"BUF_", package(b"\x11", b"\x0e" + bytes(8) + b"\xff" * (size - HEADER_BYTES - 32)))
 
 
-# ---- many files
-
-
 def sparse_files(count, size):
     head = bytearray(table(b"OTHR", b""))
     head[4:8] = size.to_bytes(4, "little")
@@ -225,8 +207,7 @@ def sparse_files(count, size):
 
 
 def calling_tables(count, size, arguments, told=None):
-    """Tables of so many methods, each of which calls one of the next table, which an External names where it is
-    told."""
+    """Tables of so many methods, each of which calls one of the next table, told by an External or not."""
     codes = []
     for number in range(count):
         called = [segment((number + 1) % count * size + index) for index in range(size)]
@@ -254,9 +235,6 @@ def led(names, width, more):
         names[3]: table(b"DSDT", b""), **{it: table(b"SSDT", b"") for it in names[4:]},
         "tables.map": "".join(f"{places[it]:016X} {it}\n" for it in names).encode(),
     }
-
-
-# ---- all of them
 
 
 def both(name, count, unit, depth, make, any_run=False):
@@ -297,25 +275,18 @@ DEEP_SETS = (
     # Names, each behind a Scope of a Device at the root with such a name
     ("deep-returns", 2_000, "names", 10_000, lambda count, depth:
         device(b"") + within(depth, each(count, lambda it: scope(b"\\DEV0", name(it)) + name(it)))),
-    # Scopes of a Device at the root, each with a name
     ("deep-scopes-upward", 2_000, "terms", 10_000, lambda count, depth:
         device(b"") + within(depth, each(count, lambda it: scope(b"DEV0", name(it))))),
     # Aliases there of a name at the root, or of one that stands a half or a third of the way down
-    *(
-        (
-            f"deep-aliases-{where}", 2_000, "names", 10_000,
-            lambda size, deep, cut=cut: within(deep // cut, LEAF_NAME + within(deep - deep // cut, each(size, alias))),
-        )
-        for where, cut in (("upward", 1_000_000), ("halfway", 2), ("low", 3))
-    ),
+    *((f"deep-aliases-{where}", 2_000, "names", 10_000, lambda size, deep, cut=cut:
+        within(deep // cut, LEAF_NAME + within(deep - deep // cut, each(size, alias))))
+        for where, cut in (("upward", 1_000_000), ("halfway", 2), ("low", 3))),
     # Names below paths that nothing but an External's path has, each before an Alias of a name at the root
     ("deep-unsettled", 2_000, "names", 10_000, lambda count, depth:
         LEAF_NAME + each(count, lambda it: b"\x15\x5c\x2f\x03X" + it[1:] + b"YYYYZZZZ\0\0")
         + within(depth, each(count, lambda it: name(b"\x5c\x2eX" + it[1:] + b"WWWW") + alias(it)))),
-    # Devices, each with an Alias of a name at the root
     ("deep-devices-aliases", 2_000, "devices", 10_000, lambda count, depth:
         LEAF_NAME + within(depth, each(count, lambda it: device(alias(it), it)))),
-    # Uses of an Alias of a method in the scope
     ("deep-alias", 100_000, "names", 10_000, lambda count, depth:
         within(depth, method(segment(0), 0, b"") + alias(b"\\ALIA", segment(0))) + main_method(b"ALIA" * count)),
     ("deep-methods", 2_000, "methods", 10_000, deep_methods),
@@ -366,7 +337,6 @@ SHAPES = (
     one("maybe-aliases", 12_000, "Aliases", maybe_aliases, any_run=True, is_square=True),
     one("maybe-aliases-deep", 1_000, "Aliases", lambda count:
         within(10_000, maybe_aliases(count)), any_run=True, is_square=True),
-    # A name at the root, as so many terms of a deep scope
     one("names-outside", 8_000, "names", lambda count: LEAF_NAME + within(DEEPEST, LEAF * count), any_run=True),
     # Regions in a deep scope, whose offset and length are a name at the root
     one("regions-outside", 1_000, "regions", lambda count: LEAF_NAME + regions(count, DEEPEST, LEAF), any_run=True),
@@ -375,7 +345,6 @@ SHAPES = (
     # A Field in a deep scope, whose connections are Buffers of a size that is a name which nothing declares
     one("connections-outside", 100_000, "names", lambda count:
         within(9 * SEGMENTS, package(b"\x5b\x81", NEAR + b"\1" + (b"\2\x11\5" + LEAF) * count))),
-    # Two tables that declare one name again and again
     Shape("again", 2_000_000, "names", lambda count: tables(*[LEAF_NAME * (count // 2)] * 2), any_run=True),
     # As many uses of names as lines that give them counts, and many lines for one name
     Shape("given", 1_000_000, "lines", given=True, make=lambda count:

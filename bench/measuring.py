@@ -11,28 +11,22 @@ from trying import run  # noqa: E402
 Sparse = namedtuple("Sparse", "head size")
 
 
-def write_file(path, content):
-    path.parent.mkdir(exist_ok=True)
-    if not isinstance(content, Sparse):
-        path.write_bytes(content)
-        return
-    same = path.parent.parent / f"{path.parent.name}.sparse"
-    if not same.exists():
-        same.write_bytes(content.head)
-        os.truncate(same, content.size)
-    os.link(same, path)
-
-
 def write(folder, make):
-    """Writes a set from a process of its own: a program that is begun later counts this one's peak memory as its own.
-
-    Answers how many bytes its tables have.
-    """
+    """Writes a set from a process of its own, since a program that is begun later counts this one's peak memory as its
+    own, and gives how many bytes its tables have."""
     folder.mkdir(parents=True, exist_ok=True)
     child = os.fork()
     if child == 0:
         for name, content in make().items():
-            write_file(folder / name, content)
+            path, same = folder / name, folder.parent / f"{folder.name}.sparse"
+            path.parent.mkdir(exist_ok=True)
+            if not isinstance(content, Sparse):
+                path.write_bytes(content)
+                continue
+            if not same.exists():
+                same.write_bytes(content.head)
+                os.truncate(same, content.size)
+            os.link(same, path)
         os._exit(0)
     if os.waitpid(child, 0)[1]:
         sys.exit(f"{folder} couldn't be written")

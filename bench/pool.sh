@@ -5,12 +5,8 @@ set -e
 cd "$(dirname "$0")/../crates/pool_bench"
 rt run -- answer 2 7 >/dev/null 2>&1
 for workers in 1 2 4 64; do
-    for _ in 1 2 3; do
-        echo "empty, $workers workers: $(out/pool_bench empty "$workers" 1048576)"
-    done
+    for _ in 1 2 3; do echo "empty, $workers workers: $(out/pool_bench empty "$workers" 1048576)"; done
 done
 for workers in 1 2 4; do
-    for _ in 1 2 3; do
-        echo "100 microseconds, $workers workers: $(out/pool_bench busy "$workers" 4000)"
-    done
+    for _ in 1 2 3; do echo "100 microseconds, $workers workers: $(out/pool_bench busy "$workers" 4000)"; done
 done

@@ -3,23 +3,19 @@
 
 usage: bench/stack.py [ACPIDIS]
 
-ACPIDIS is the built program, out/acpidis if left out. gdb has to be there (Debian: apt-get install gdb). Each set is
-one table with a method, or with terms outside the methods, nested as deep as is read. The program lists it, and checks
-it with --check, by one worker. At each advice to the system, as the C library gives when a thread ends, gdb stops the
-program, and the script adds up what was touched of the stack on which all is read, printed and checked. The script is
-no part of the gate.
-"""
-import pathlib
+gdb has to be there (Debian: apt-get install gdb). Each set is one table with a method, or with terms outside the
+methods, nested as deep as is read. The program lists it, and checks it with --check, by one worker. At each advice to
+the system, as the C library gives when a thread ends, gdb stops the program, and the script adds up what was touched
+of the stack on which all is read, printed and checked. The script is no part of the gate."""
 import re
 import shlex
 import subprocess
 import sys
 import tempfile
 
-import measuring  # noqa: F401, which tells where the others lie
 import hostile_shapes as shapes
 from made_aml import tables
-from trying import PROGRAM, asked
+from trying import PROGRAM, asked, ended, new_room, written
 
 LEVELS = 511
 STACK_KB = 8 << 10
@@ -35,12 +31,8 @@ def packages(opcode, front, inner, levels=LEVELS):
     return shapes.around(levels, lambda code: shapes.package(opcode, front + code), inner)
 
 
-def connection(levels, within):
-    """A Field in so many Ifs, whose connection is a Buffer of a size so deep."""
-    buffer = shapes.package(b"\x11", b"\x92" * within + b"\x60")
-    return packages(b"\xa0", b"\x60", shapes.package(b"\x5b\x81", b"REGN\x01\x02" + buffer), levels)
-
-
+# A Field whose connection is a Buffer of a size so deep
+FIELD = shapes.package(b"\x5b\x81", b"REGN\x01\x02" + shapes.package(b"\x11", b"\x92" * 209 + b"\x60"))
 BODIES = {
     "If": packages(b"\xa0", b"\x60", b"\xa3"),
     "Package": packages(b"\x12", b"\x01", b"\0"),
@@ -49,7 +41,7 @@ BODIES = {
     "operator, one operand": b"\x92" * LEVELS + b"\x60",
     "target": b"\x88\x60\0" * LEVELS + b"\0",
     "call": b"CALL" * LEVELS + b"\x60",
-    "connection of a Field": connection(300, 209),
+    "connection of a Field": packages(b"\xa0", b"\x60", FIELD, 300),
 }
 TABLES = {
     "Device": packages(b"\x5b\x82", b"DEV_", b""),
@@ -64,23 +56,20 @@ def touched_kb(command, folder):
         script.write("\n".join([*GDB, SHOW]).replace("{}", shlex.join([*command[1:], folder]), 1))
         script.flush()
         words = ["gdb", "-q", "-batch", "-nx", "-x", script.name, command[0]]
-        pipes = {"stdin": subprocess.DEVNULL, "stdout": subprocess.PIPE, "stderr": subprocess.STDOUT}
-        shown = subprocess.run(words, **pipes, text=True, check=False)
-    areas = re.findall(r"^Size: +(\d+) kB$.*?^Rss: +(\d+) kB$", shown.stdout, re.M | re.S)
+        shown = ended(*words, stderr=subprocess.STDOUT).out
+    areas = re.findall(r"^Size: +(\d+) kB$.*?^Rss: +(\d+) kB$", shown, re.M | re.S)
     stacks = [int(rss) for size, rss in areas if int(size) == STACK_KB]
-    return max(stacks) if stacks else sys.exit(f"no stack of {STACK_KB} KB was found:\n{shown.stdout[-2000:]}")
+    return max(stacks) if stacks else sys.exit(f"no stack of {STACK_KB} KB was found:\n{shown[-2000:]}")
 
 
 def main():
     program = str(asked(__doc__, program=PROGRAM).program)
-    external = b"\x15CALL\x08\x01"
-    codes = {f"in a body: {name}": external + shapes.main_method(body) for name, body in BODIES.items()}
+    codes = {f"in a body: {name}": b"\x15CALL\x08\x01" + shapes.main_method(body) for name, body in BODIES.items()}
     codes |= {f"outside the methods: {name}": code for name, code in TABLES.items()}
     print("kind of nesting | listed | with --check")
     for name, code in codes.items():
-        with tempfile.TemporaryDirectory() as folder:
-            (pathlib.Path(folder) / "dsdt.dat").write_bytes(tables(code)["dsdt.dat"])
-            words = [program, "--workers", "1"]
+        with new_room() as room:
+            folder, words = str(written(room / "set", tables(code))), [program, "--workers", "1"]
             print(f"{name} | {touched_kb(words, folder)} KB | {touched_kb([*words, '--check'], folder)} KB", flush=True)
 
 

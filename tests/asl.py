@@ -3,22 +3,18 @@
 
     python3 tests/asl.py [--sets N] [--stop] [FOLDER ..]
 
-Of sample sets, of N made-up sets of which ASL has each term, 200 if left out, and of each FOLDER of dumps, asl.py
-makes ASL of the listing. Where iasl is there it compiles each block of which nothing is told, which has to give the
-dump's bytes again. 150 methods, grown by 1 to 70,000 bytes, are put into their dumps by splice.py: the listings
-differ in the lines that are new. unpack.py does as acpixtract does, where that is there. With --stop the first row
-that fails ends it. The last line is 'N passed, N failed'.
-"""
+Of sample sets, of made-up sets of which ASL has each term, and of each FOLDER, asl.py makes ASL of the listing. Where
+iasl is there it compiles each block of which nothing is told, which has to give the dump's bytes again. 150 methods,
+grown by 1 to 70,000 bytes, are put into their dumps by splice.py: the listings differ in the lines that are new.
+unpack.py does as acpixtract does, where that is there."""
 
-import concurrent.futures
 import itertools
 import os
 import random
 import re
 import shutil
-import subprocess
 
-from tally import DEMO, PROGRAM, Tally, asked, parts_in, tables_in, timed, written
+from tally import DEMO, PROGRAM, Tally, asked, ended, parts_in, side_by_side, tables_in, timed, written
 import hostile_shapes as shapes
 import splice
 from dumps import aml_of, dumps_of
@@ -43,7 +39,7 @@ NOOP = b"\xA3"
 def compiled(path):
     """What iasl makes of a file by the command on its first line; None where it makes nothing."""
     command = path.read_text("ascii").partition("\n")[0].removeprefix("// ").split()
-    subprocess.run(command[:-1] + [path.name], cwd=path.parent, stdin=subprocess.DEVNULL, capture_output=True, check=False)
+    ended(*command[:-1], path.name, cwd=path.parent)
     made = path.with_suffix(".aml")
     return made.read_bytes() if made.exists() else None
 
@@ -52,7 +48,6 @@ def plain_set(seed):
     return tables(*PlainMaker(random.Random(seed)).tables())
 
 
-# What ASL hasn't got
 ROWS = ["\\FOO_ Method 1", "\\BAR_ Name", "\\DEV0 Device", "\\DEV0._STA Method 0"]
 SCOPED = "FOO_ (One)\n  }\n  Scope (FOO_) {", "FOO_ as a call, where nothing says that it is a method"
 WIDE = "0x1122334455667788"
@@ -81,11 +76,11 @@ MISREAD = [
 
 def text_with(body, revision=2):
     lines = ["Method (FOO_, 1, NotSerialized, 0) {", f"  {body}", "}", "Name (BAR_, One)", "Device (DEV0) {"]
-    return text_of(ROWS, [*lines, "  Method (_STA, 0, NotSerialized, 0) {", "  }", "}"], "a.dat", revision)
+    return text_of(ROWS, [*lines, "  Method (_STA, 0, NotSerialized, 0) {", "  }", "}"], "a.dat", revision=revision)
 
 
 def listed(folder, options=()):
-    return subprocess.run([PROGRAM, *options, folder], capture_output=True, check=False).stdout.decode("ascii")
+    return ended(PROGRAM, *options, folder).out
 
 
 def dumped(name, address, data):
@@ -102,7 +97,7 @@ def files_in(folder):
 class Checks(Tally):
     same = told = 0
 
-    def check_set(self, name, dumps, options):
+    def compile_again(self, name, dumps, options):
         """Each block of a set's listing of which nothing is told compiles to its dump."""
         outcome = run(dumps, options)
         if outcome.status == REFUSED:
@@ -110,12 +105,11 @@ class Checks(Tally):
         place = written(self.room / name / "dumps", {dump.name: dump.data for dump in dumps})
         text, out = self.text(f"{name}/text", outcome.out), self.room / name / "out"
         ran = self.run(ASL, "--tables", place, text, out)
-        told = {line.removeprefix("acpidis-asl: ").partition(": ")[0] for line in ran.stderr.splitlines()}
-        self.is_so(f"{name}: {ran.stderr[-500:]}", ran.returncode in (0, 3) and "Traceback" not in ran.stderr)
+        told = {line.removeprefix("acpidis-asl: ").partition(": ")[0] for line in ran.err.splitlines()}
+        self.is_so(f"{name}: {ran.err[-500:]}", ran.status in (0, 3) and "Traceback" not in ran.err)
         made = sorted(out.iterdir(), key=lambda path: path.stat().st_mtime_ns)
-        files = dict(zip(re.findall(r'^DefinitionBlock \("(.*)"\) \{$', outcome.out, re.M), made))
         data = {file_text(dump.name)[1:-1]: dump.data for dump in dumps}
-        for file, path in files.items():
+        for file, path in zip(re.findall(r'^DefinitionBlock \("(.*)"\) \{$', outcome.out, re.M), made):
             self.told += file in told
             if IASL and file not in told:
                 self.same += 1
@@ -124,15 +118,26 @@ class Checks(Tally):
                 same = (made[:9], made[10:28], made[HEADER:]) == (dump[:9], dump[10:28], dump[HEADER:])
                 self.is_so(f"{name}: {file} again", same)
 
-    def check_sets(self, count, folders):
+    def compile_sets(self, count, folders):
         jobs = [(name, dumps_of(files), Options(any_run=True)) for name, files in SAMPLES.items()]
         jobs += [("demo", read_folder(DEMO), Options())]
         jobs += [(f"plain{seed}", dumps_of(plain_set(seed)), Options()) for seed in range(count)]
         jobs += [(f"of_{it.name}", read_folder(it), Options(any_run=True, any_sum=True)) for it in folders]
-        with concurrent.futures.ThreadPoolExecutor(os.cpu_count()) as pool:
-            list(pool.map(lambda job: self.check_set(*job), jobs))
+        list(side_by_side(lambda job: self.compile_again(*job), jobs))
         if IASL:
             self.is_so(f"most made-up tables are compiled: {self.same} of {self.same + self.told}", self.same >= count)
+
+    def check_forms(self):
+        """Lengths and names that aren't in their shortest form are told by the dumps."""
+        code = device(b"DEV0", b"\x08\x2F\1NAM0\1", method(b"NAM1", 0))
+        place = written(self.room / "forms", tables(code))
+        self.text("forms.text", listed(place))
+        words = [ASL, "--tables", place, "forms.text", "formed"]
+        what = "dsdt.dat: 2 of 2 lengths, 1 of 3 names aren't in their shortest form, which iasl writes"
+        self.refuses("forms", words, what, 3)
+        (place / "dsdt.dat").write_bytes(table(b"DSDT", b"\x08NAM0\1"))
+        what = f"{str(place / 'dsdt.dat')!r} isn't the dump of this listing: they differ at byte 37"
+        self.refuses("another dump", words, what, 2)
 
     def check_told(self):
         rows = [(body.replace("\\n", "\n    "), what, 9, 2) for body, what in BODIES]
@@ -154,7 +159,7 @@ class Checks(Tally):
         self.refuses("a method twice", [ASL, "--method", "FOO_", twice, "method"], said)
         for option in ("--edit",), ():
             out = self.room / f"raw{len(option)}"
-            self.is_same("a raw body is told", self.run(ASL, *option, raw, out).returncode, 3)
+            self.is_same("a raw body is told", self.run(ASL, *option, raw, out).status, 3)
             self.is_so("iasl refuses a raw body", not IASL or not compiled(out / "a.dat.asl"))
 
     def check_misread(self):
@@ -165,6 +170,14 @@ class Checks(Tally):
         self.is_so("nothing is written", not (self.room / "misread").exists())
         text.write_bytes(WHOLE.replace("\n", "\r\n").encode())
         self.says("lines as on Windows", [ASL, text, "windows"], 0)
+
+    def check_circle(self):
+        """Two Aliases that name each other, one of which is called."""
+        rows = ["\\AAAA Alias \\BBBB", "\\BBBB Alias \\AAAA", "\\MAIN Method 0"]
+        lines = ["Alias (BBBB, AAAA)", "Alias (AAAA, BBBB)", "Method (MAIN, 0, NotSerialized, 0) {", "  AAAA (One)", "}"]
+        text = self.text("circle.text", text_of(rows, lines, "a.dat"))
+        what = "a.dat: line 10 of the listing: AAAA as a call, where nothing says that it is a method"
+        self.refuses("a circle of Aliases", [ASL, text, "circle"], what, 3)
 
     def check_names(self):
         """Files of names that a command could take for something else, and many blocks."""
@@ -189,11 +202,11 @@ class Checks(Tally):
             times.append(timed(self.run, ASL, "--edit", text, f"of{size}", most=most)[1])
         self.is_so(f"seconds of 1 MB and 4 MB: {times}", times[0] < 6 and times[1] < 8 * times[0])
 
-    def check_put_in(self, file, made, path, lines, options=()):
+    def put_in(self, file, made, path, lines, options=()):
         """What a table has at a path is put into a dump, which is read whole, and its listing has these lines more."""
         dump, before = file.read_bytes(), listed(file.parent, options)
         (self.room / "new.aml").write_bytes(made)
-        file.write_bytes(self.says(f"splice {path}", [SPLICE, file, "new.aml", path], 0, b"", text=False))
+        file.write_bytes(self.says(f"splice {path}", [SPLICE, file, "new.aml", path], 0, b"", errors=None))
         checked = listed(file.parent, [*options, "--check"])
         self.is_so(f"{file}: {path}: {checked}", " Differs" not in checked and f'Check "{file.name}"' in checked)
         # They stand one behind the other, and one table has another length.
@@ -211,7 +224,7 @@ class Checks(Tally):
         text, statement = self.text(f"{name}.text", listed(place, options)), "Store (0x11223344, Debug)"
         for number, path in enumerate(re.findall(r"^  (\S+) Method [0-7]$", text.read_text(), re.M)):
             out = self.room / f"{name}.{number}"
-            if self.run(ASL, "--method", path, text, out).returncode:
+            if self.run(ASL, "--method", path, text, out).status:
                 continue
             (source,) = out.iterdir()
             whole, method_line = source.read_text("ascii"), re.compile(r"^( *)Method \(.*\n", re.M)
@@ -219,9 +232,9 @@ class Checks(Tally):
             made = compiled(source)
             self.is_so(f"{name}: {path} is compiled", made)
             if made:
-                self.check_put_in(place / source.name.removesuffix(".asl"), made, path, [statement], options)
+                self.put_in(place / source.name.removesuffix(".asl"), made, path, [statement], options)
 
-    def check_edit(self):
+    def edit_tables(self):
         """Whole tables to be changed are compiled, but with a name that nothing declares."""
         self.text("edit.text", listed(written(self.room / "edit", VERSIONS["first"])))
         self.says("--edit", [ASL, "--edit", "edit.text", "edited"], 0)
@@ -252,7 +265,7 @@ class Checks(Tally):
                 code = loaded.codes[it.table]
                 new = method(shortest(Name(True, 0, it.path)), code[it.start - 1], code[it.start : it.end], more)
                 file, path = place / list(files)[it.table], path_text(it.path)
-                self.check_put_in(file, table(b"SSDT", new), path, ["Noop"] * len(more))
+                self.put_in(file, table(b"SSDT", new), path, ["Noop"] * len(more))
         self.is_so(f"{number} methods are grown", number >= GROWN)
 
     def check_splice(self):
@@ -269,19 +282,19 @@ class Checks(Tally):
         for words, what in UNSPLICED:
             one, other, path = words.split()
             self.refuses(f"splice {words}", [SPLICE, f"splice/{one}", f"splice/{other}", path], what, printed="")
-        self.is_same("no path", self.run(SPLICE, old, new, "1").returncode, 2)
+        self.is_same("no path", self.run(SPLICE, old, new, "1").status, 2)
         for option, file in ("-o", old), ("--initrd", "splice/../splice/old"), ("-o", "-"):
             ran = self.run(SPLICE, option, file, old, new, "NAM1")
             said = f"acpidis-splice: {file!r} is {'no name of a file' if file == '-' else 'DUMP'}: name another"
-            self.is_same(f"splice {option} {file}", (ran.returncode, ran.stderr.splitlines()[-1]), (2, said))
+            self.is_same(f"splice {option} {file}", (ran.status, ran.err.splitlines()[-1]), (2, said))
         self.is_same("DUMP stays", (self.room / old).read_bytes(), files["old"])
         words = [SPLICE, "--oem-revision", "--initrd", "acpi.cpio", old, new, "\\DEV0.MET0", "dev0.nam0", "\\NAM1"]
-        patched = self.says("three paths", words, 0, b"", text=False)
+        patched = self.says("three paths", words, 0, b"", errors=None)
         wanted = device(b"DEV0", b"\x08NAM0\x0A\x07", method(b"MET0", 1, NOOP)) + b"\x08NAM1\x0D1\x00" + twice
         head = bytearray(files["old"][:HEADER])
         head[24] += 1
         self.is_same("what is put in", patched, sealed(bytes(head) + wanted))
-        self.check_archive(patched)
+        self.look_at_archive(patched)
         lengths = [splice.spelled(*it) for it in ((63, 1), (64, 1), (4095, 2))]
         self.is_same("lengths", lengths, [b"?", b"@\x04", b"O\xff"])
         try:
@@ -293,7 +306,7 @@ class Checks(Tally):
         said = "the OEM revision can't be raised: it is FFFFFFFF"
         self.refuses("the last revision", [SPLICE, "--oem-revision", old, new, "NAM1"], said)
 
-    def check_archive(self, patched):
+    def look_at_archive(self, patched):
         """The archive has the folders and the table, as cpio reads it where it is there."""
         data = (self.room / "acpi.cpio").read_bytes()
         names = re.findall(rb"070701[0-9A-F]{104}([^\0]+)\0", data)
@@ -303,7 +316,7 @@ class Checks(Tally):
         self.is_so("blocks of the archive", len(data) % 512 == 0 and patched in data)
         if shutil.which("cpio"):
             (self.room / "cpio").mkdir()
-            subprocess.run(["cpio", "-i", "--quiet"], cwd=self.room / "cpio", input=data, check=False)
+            ended("cpio", "-i", "--quiet", cwd=self.room / "cpio", input=data, errors=None)
             self.is_same("cpio", (self.room / "cpio" / file).read_bytes(), patched)
 
     def check_unpack(self):
@@ -330,7 +343,7 @@ class Checks(Tally):
             self.is_same(f"{name}: files", files_in(self.room / f"{name}.d"), wanted)
         if ACPIXTRACT:
             place = written(self.room / "acpixtract", {})
-            subprocess.run([ACPIXTRACT, "-a", self.room / "plain"], cwd=place, capture_output=True, check=False)
+            ended(ACPIXTRACT, "-a", self.room / "plain", cwd=place)
             self.is_same("as acpixtract", files_in(place), names)
         half = "line 3: a whole row of DSDT at 0010 should stand there"
         for name, content, what in [
@@ -352,13 +365,13 @@ class Checks(Tally):
             self.is_so(f"{name}: nothing is written", not (self.room / f"{name}.d").exists())
         said = "'plain.d' is there, and isn't an empty folder"
         self.refuses("a folder in the way", [UNPACK, "plain", "plain.d"], said, 2)
-        self.check_chain()
+        self.unpack_chain()
         image = b"DSDT\xFF\xFF\x00\x00\1\0TEST  EXAMPLE \1\0\0\0TEST\1\0\0\0" * 30_000 + b"DSDT"
         (self.room / "claims").write_bytes(image)
         _, seconds = timed(self.run, UNPACK, "claims", "claims.d")
         self.is_so(f"an image of 1 MB that claims many tables: {seconds} s", seconds < 3)
 
-    def check_chain(self):
+    def unpack_chain(self):
         """Addresses are written where they lead to the DSDT, and acpidis takes the folder."""
         files = shapes.led(["rsdp.dat", "xsdt.dat", *shapes.LED, "ssdt.dat"], 8, 0)
         words = {"rsdp.dat": "RSD PTR", "xsdt.dat": "XSDT", "facp.dat": "FACP", "dsdt.dat": "DSDT", "ssdt.dat": "SSDT"}
@@ -378,27 +391,13 @@ class Checks(Tally):
             is_there = wanted.startswith("DefinitionBlock")
             said, shown = ("", wanted + "\n") if is_there else (f"acpidis-show: {str(text)!r} {wanted}\n", "")
             self.says(f"show {path}", [SHOW, text, path], int(not is_there), said, shown)
-        heads = self.run(SHOW, text, "_hid").stdout.count("Name (_HID, ")
+        heads = self.run(SHOW, text, "_hid").out.count("Name (_HID, ")
         self.is_same("each _HID", heads, text.read_text().count("Name (_HID, "))
-        whole = self.run(SHOW, text, "EC0").stdout
+        whole = self.run(SHOW, text, "EC0").out
         self.is_so("a device whole", whole.count("{") == whole.count("}") + 3 and "Method (_Q13" in whole)
-        self.is_same("no path", self.run(SHOW, text, "1").returncode, 2)
+        self.is_same("no path", self.run(SHOW, text, "1").status, 2)
         ran = self.run(SHOW, place / "dsdt.dat", "SMI")
-        self.is_same("no listing", (ran.returncode, ran.stderr.count("\n")), (1, 1))
-
-    def check_forms(self):
-        """Lengths and names that aren't in their shortest form are told by the dumps."""
-        code = b"\x5B\x82\x49\x01DEV0" + b"\x08\x2F\1NAM0\1" + method(b"NAM1", 0, b"")
-        length = len(code) - 2
-        code = code[:2] + bytes([0x40 | length & 15, length >> 4]) + code[4:]
-        place = written(self.room / "forms", tables(code))
-        self.text("forms.text", listed(place))
-        words = [ASL, "--tables", place, "forms.text", "formed"]
-        what = "dsdt.dat: 2 of 2 lengths, 1 of 3 names aren't in their shortest form, which iasl writes"
-        self.refuses("forms", words, what, 3)
-        (place / "dsdt.dat").write_bytes(table(b"DSDT", b"\x08NAM0\1"))
-        what = f"{str(place / 'dsdt.dat')!r} isn't the dump of this listing: they differ at byte 37"
-        self.refuses("another dump", words, what, 2)
+        self.is_same("no listing", (ran.status, ran.err.count("\n")), (1, 1))
 
 
 def main():
@@ -406,19 +405,14 @@ def main():
     if not IASL:
         print("iasl isn't there (acpica-tools): nothing is compiled")
     with Checks(words.stop) as checks:
-        for check in (
-            checks.check_forms, checks.check_told, checks.check_method, checks.check_misread, checks.check_names,
-            checks.check_speed, checks.check_splice, checks.check_unpack, checks.check_show, checks.check_grown,
-        ):  # fmt: skip
-            check()
-        checks.check_sets(words.sets, words.folders)
+        checks.check_all()
+        checks.compile_sets(words.sets, words.folders)
         if IASL:
             for version, files in VERSIONS.items():
                 checks.added(version, dumps_of(files), ["--any-run"])
             checks.added("of the demo", read_folder(DEMO), [])
             checks.added("of Externals", dumps_of(tables(*SETS["externals"])), [])
-            checks.check_edit()
+            checks.edit_tables()
 
 
-if __name__ == "__main__":
-    main()
+main()

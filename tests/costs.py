@@ -4,8 +4,7 @@ faults, instructions, and the processor time of shapes that would take long with
 
 usage: tests/costs.py [PROGRAM]
 
-PROGRAM is out/acpidis if left out. It needs a C compiler, for refusals.c, and valgrind. The last line is 'N passed, N failed'.
-"""
+It needs a C compiler, for refusals.c, and valgrind."""
 
 from functools import partial
 
@@ -22,8 +21,7 @@ LEAST_WRITE = 32_768
 MOST_FREED = 100
 # A run touches few pages that a program doesn't touch which only says its version. 128 are the large window of the rows.
 MOST_FAULTS = 80
-# The program has a thread, and three more read the bodies with it; as many once more print rows that are many, and one
-# makes the text of a table that is long.
+# Threads: three read the bodies with the first; as many print rows that are many, one the text of a long table.
 STARTS = {"a small set": (DEMO, 4), f"{METHODS} rows": ("set", 8)}
 # Seconds of processor time, several times what each takes, and less than without the steps upward (14 for the first).
 SHAPES = {

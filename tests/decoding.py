@@ -3,21 +3,18 @@
 
     python3 tests/decoding.py [FOLDER ..]
 
-First come rows that are worked out by hand from chapter 6.4 of the standard, and a set whose lines have to get the notes
-that are written down here. Then what is said of the demo, of that set and of each FOLDER of dumps is compared with
-`iasl -d`, table by table: the resources, the UUIDs, the EISA ids, the regions' spaces, the flags of field lists and the
-places of their units. Where iasl isn't installed that part is left out, and said so. Texts are those of the independent
-reading. The last line is 'N passed, N failed'.
-"""
+First come rows that are worked out by hand from chapter 6.4 of the standard, and a set whose lines have to get the
+notes that are written down here. Then what is said of the demo, of that set and of each FOLDER is compared with `iasl
+-d`, table by table: the resources, the UUIDs, the EISA ids, the regions' spaces, the flags of field lists and the
+places of their units. Where iasl isn't installed that part is left out, and said so."""
 
 import ast
 import difflib
 import pathlib
 import re
 import shutil
-import tempfile
 
-from tally import DEMO, Tally, asked, tables_in, written
+from tally import DEMO, Tally, asked, new_room, tables_in, written
 from acpidis_tools.decoding import Decoder, bits_text, flag_words
 from dumps import order_of
 from folders import read_folder
@@ -107,12 +104,11 @@ class Checks(Tally):
             self.is_same(f"{name} of {words}", FUNCTIONS[name](*words), wanted)
 
     def check_objects(self) -> None:
-        """Predefined objects in words, and values of another form without any."""
         listing, decoder = decoded(written(self.room / "objects", tables(*SETS["objects"])))
         found = [f"{line.words[1]}: {row}" for line in listing.lines for row in decoder.rows(line)]
         self.is_same("predefined objects", found, OBJECTS)
 
-    def check_notes(self, folder: pathlib.Path) -> None:
+    def compare_notes(self, folder: pathlib.Path) -> None:
         listing, decoder = decoded(folder)
         said = {}
         for line in listing.blocks[0].lines:
@@ -130,9 +126,9 @@ class Checks(Tally):
             print(f"{what} is refused: nothing is compared")
             return
         ours, dumps = our_facts(*read), read_folder(folder)
-        with tempfile.TemporaryDirectory() as room:
+        with new_room() as room:
             for index in order_of(dumps, True):
-                theirs = facts_of(dumps[index].data, pathlib.Path(room))
+                theirs = facts_of(dumps[index].data, room)
                 if theirs is None:
                     print(f"{what}, {dumps[index].name}: iasl -d fails, and nothing is compared")
                     continue
@@ -145,11 +141,9 @@ class Checks(Tally):
 def main() -> None:
     folders = asked(__doc__, folders=()).folders
     with Checks() as checks:
-        checks.check_rows()
-        checks.check_words()
+        checks.check_all()
         made = made_set(checks.room)
-        checks.check_notes(made)
-        checks.check_objects()
+        checks.compare_notes(made)
         if shutil.which("iasl"):
             for folder in (DEMO, made, *folders):
                 checks.compare(folder.name, folder)
@@ -157,5 +151,4 @@ def main() -> None:
             print("iasl is not there, so nothing is compared with it: on Debian, apt-get install acpica-tools")
 
 
-if __name__ == "__main__":
-    main()
+main()

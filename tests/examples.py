@@ -3,20 +3,16 @@
 
     python3 tests/examples.py [--stop]
 
-They run the program as they find it: ACPIDIS names another. With --stop the first row that fails ends it. The last line is
-'N passed, N failed'.
-"""
+They run the program as they find it: ACPIDIS names another."""
 
 import functools
 import itertools
 import os
 import re
 import shlex
-import subprocess
 
-from tally import TOP, Tally, asked, executable, parts_in, run_script, timed, written
+from tally import TOP, Tally, asked, ended, executable, parts_in, timed, written
 from made_aml import SETS, device, method, table, tables
-
 
 GIVEN = "\\PCIU 0\n\\_SB_.PCIU 0\n\\_SB_.PCID 0\n"
 BAD_NAME = "a\" {\n      Raw {5A}\n$(touch bad)`touch bad`.dat"
@@ -36,14 +32,13 @@ class Tries(Tally):
 
     def row(self, name, run, status, out, said=(), is_whole=True):
         """This status and standard output, or these lines of it, and these lines among those of standard error."""
-        missing = [line for line in said if line not in run.stderr.splitlines()]
-        missing += [] if is_whole else [line for line in out.splitlines() if line not in run.stdout.splitlines()]
-        printed = f"{run.stdout}{run.stderr}wanted\n{out}{missing}"
-        is_right = run.returncode == status and (run.stdout == out or not is_whole) and not missing
-        self.is_so(f"{name}: status {run.returncode}, not {status}\n{printed}", is_right)
+        missing = [line for line in said if line not in run.err.splitlines()]
+        missing += [] if is_whole else [line for line in out.splitlines() if line not in run.out.splitlines()]
+        printed = f"{run.out}{run.err}wanted\n{out}{missing}"
+        is_right = run.status == status and (run.out == out or not is_whole) and not missing
+        self.is_so(f"{name}: status {run.status}, not {status}\n{printed}", is_right)
 
     def make_sets(self):
-        """The sets of tests/sets.txt, and some more."""
         for name, codes in SETS.items():
             written(self.room / name, tables(*codes))
         written(self.room / "noted", {**tables(*SETS["twice"]), "notes.txt": b"no table"})
@@ -56,7 +51,7 @@ class Tries(Tally):
         self.folder("text", b'\x08TEXT\x0d"\n      Raw {5A}\nMethod (AAAA, 7, \0' + SETS["ejects"][0])
         (self.room / "given").write_text(GIVEN)
 
-    def try_rows(self):
+    def check_rows(self):
         for name, rest in parts_in("examples.txt")[1:]:
             if name.startswith("fake "):
                 self.fake(name.removeprefix("fake "), rest)
@@ -71,15 +66,15 @@ class Tries(Tally):
             _, status, *more = ending.split()
             self.row(name, run, int(status), out, said, not more)
             if file:
-                (self.room / file).write_text(run.stdout)
+                (self.room / file).write_text(run.out)
         self.is_so("nothing is executed", not list(self.room.glob("**/bad")))
 
-    def try_many_missing(self):
+    def check_many_missing(self):
         """Names in bodies of their own are tried together, in as many runs as one; of one body they end with a word."""
         names = [b"X%03d" % number for number in range(300)]
         many = b"".join(method(b"M" + name[1:], 0, b"\xa4" + name) for name in names)
-        launched = subprocess.run([TOP / "acpidis", "--program"], capture_output=True, text=True, check=False)
-        program, calls = os.environ.get("ACPIDIS") or launched.stdout.rstrip("\n"), self.room / "calls"
+        launched, calls = ended(TOP / "acpidis", "--program").out.rstrip("\n"), self.room / "calls"
+        program = os.environ.get("ACPIDIS") or launched
         counting = self.fake("counting", f"echo run >>'{calls}'\nexec '{program}' \"$@\"\n")
         found = self.run("missing.py", "--try", self.folder("many", many), ACPIDIS=counting)
         wanted = "".join(f"\\{name.decode()} 0\n" for name in names)
@@ -89,7 +84,7 @@ class Tries(Tally):
         found = self.run("missing.py", self.folder("pair", pair))
         self.row("two names of one body", found, 0, "\\AAAA ?\n\\BBBB ?\n", ["#   with 0: 1 reads"])
 
-    def try_options(self):
+    def check_options(self):
         """Options that a program's help has are passed on, whatever they are, and others are refused."""
         said, fake = self.room / "said", str(self.room / "later")
         lines = {"calls.py": "", "missing.py": "", "refused.py": "the set isn't refused\n"}
@@ -101,31 +96,31 @@ class Tries(Tally):
             self.is_so(f"{script}: words of options\n{passed}", passed.startswith("--from\n--later\n--later\n"))
             for option in ("--check", "--version", "--other", "--froma", "--later=1"):
                 found = self.run(script, option, "rounds", ACPIDIS=fake)
-                self.is_so(f"{script}: {option}", found.returncode == 2 and not found.stdout)
+                self.is_so(f"{script}: {option}", found.status == 2 and not found.out)
             self.is_so(f"{script}: no run with them", said.read_text() == passed)
 
-    def try_damage(self):
+    def check_damage(self):
         """No table is so damaged that there is no answer."""
-        found = self.run("refused.py", "returns").stdout
+        found = self.run("refused.py", "returns").out
         is_so = "`--any-run`" not in found and "A Return outside the methods" in found
         self.is_so("a Return, which the option doesn't take", is_so)
         (self.room / "noted/notes.txt").write_text("DSDT @ 0x0000000000000000\n    0000: 44 53 44 54 24 00 00 00\n")
         found = self.run("refused.py", "noted")
-        self.is_so("the text of acpidump", "Way on: `acpidis-unpack FILE FOLDER`" in found.stdout and not found.stderr)
+        self.is_so("the text of acpidump", "Way on: `acpidis-unpack FILE FOLDER`" in found.out and not found.err)
         self.fills_disk("refused.py", "twice")
         end, closed = os.pipe()
         os.close(end)
-        found = run_script("missing.py", "ejects", stdout=closed, cwd=self.room)
-        is_quiet = found.returncode == 2 and "missing:" not in found.stderr and "Errno" not in found.stderr
-        self.is_so(f"missing.py, a closed pipe: {found.returncode}, {found.stderr}", is_quiet)
+        found = super().run("missing.py", "ejects", stdout=closed)
+        is_quiet = found.status == 2 and "missing:" not in found.err and "Errno" not in found.err
+        self.is_so(f"missing.py, a closed pipe: {found.status}, {found.err}", is_quiet)
         self.folder("damaged", *SETS["branch"])
         data, file = table(b"DSDT", SETS["branch"][0] + b"\x5b\x80REG0\0"), self.room / "damaged/dsdt.dat"
         for at, byte in itertools.product(range(36, 86, 7), (0x00, 0x5B, 0xFF)):
             file.write_bytes(data[:at] + bytes([byte]) + data[at + 1 :])
             found = self.run("refused.py", "--any-sum", "damaged")
-            self.is_so("a damaged table", found.returncode in (0, 1) and not found.stderr)
+            self.is_so("a damaged table", found.status in (0, 1) and not found.err)
 
-    def try_deep(self):
+    def check_deep(self):
         """Paths of many segments, and many names below them: an answer in time, or a line why not."""
         deep = b"\\\x2f\xff" + b"".join(b"S%03d" % level for level in range(255))
         longs = b"".join(b"\x08" + deep[:-4] + b"X%03d\0" % number for number in range(60))
@@ -138,21 +133,17 @@ class Tries(Tally):
             for command in ("refused.py", "refused.py --any-run", "calls.py --any-run", "missing.py --any-run"):
                 script, *words = command.split()
                 run, seconds = timed(self.run, script, *words, folder, most=2)
-                is_short = "Traceback" not in run.stderr and run.stderr.count("\n") < 50
-                is_said = run.returncode in (0, 1, 2) and is_short
-                self.is_so(f"{script}, {folder}: {run.returncode}, {run.stderr[-300:]}", is_said)
+                is_said = run.status in (0, 1, 2) and "Traceback" not in run.err and run.err.count("\n") < 50
+                self.is_so(f"{script}, {folder}: {run.status}, {run.err[-300:]}", is_said)
                 self.is_so(f"{script}, {folder}: {seconds} seconds", seconds < 2)
-        found = self.run("missing.py", "--any-run", "nested").stderr
         said = "acpidis-missing: line [0-9]+: a scope of more than 64 segments.*\n"
-        self.is_so("the line of a deep scope", re.fullmatch(said, found))
+        self.is_so("the line of a deep scope", re.fullmatch(said, self.run("missing.py", "--any-run", "nested").err))
 
 
 def main():
     with Tries(asked(__doc__, stop=False).stop) as tries:
         tries.make_sets()
-        for check in (tries.try_rows, tries.try_many_missing, tries.try_options, tries.try_damage, tries.try_deep):
-            check()
+        tries.check_all()
 
 
-if __name__ == "__main__":
-    main()
+main()

@@ -3,11 +3,9 @@
 
     python3 tests/facts.py [--sets N] [FOLDER ..]
 
-Of four sample sets, of N made-up sets, 40 if left out, of as many with code outside methods, and of each FOLDER of
-dumps: the names with their kinds, the uses of names with what becomes of each, the regions and the units of field lists
-are those that the independent reading says. Then come the tables, resources and identifiers of a set that is written down
-here, many machines with shared code, and what the command line refuses. The last line is 'N passed, N failed'.
-"""
+Of the samples of telling.py the names with their kinds, the uses of names with what becomes of each, the regions and
+the units of field lists are those that the independent reading says. Then come the tables, resources and identifiers
+of a set that is written down here, many machines with shared code, and what the command line refuses."""
 
 import ast
 import contextlib
@@ -17,20 +15,17 @@ import json
 import os
 import pathlib
 import sqlite3
-import subprocess
 import sys
 from collections.abc import Iterator
 
-from tally import TOP, Tally, asked, first_difference, module_of, parts_in, written
+from tally import TOP, Outcome, Tally, asked, ended, first_difference, parts_in, written
 from acpidis_tools import command
+from hostile import facts_script
 from loading import path_text
 from made_aml import SETS, VERSIONS, table, tables
-from running import REFUSED, Options, Outcome, run_folder
+from running import REFUSED, Options, run_folder
 from acpidis_tools.schema import COLUMNS, REFERENCES
 from telling import Teller, samples, small
-
-FACTS = TOP / "examples/facts.py"
-facts_script = module_of("facts_script", FACTS)
 
 
 def regions_told(teller: Teller, has_raw: bool) -> list:
@@ -93,11 +88,6 @@ facts.main()
 """
 
 
-class Terminal(io.StringIO):
-    def isatty(self) -> bool:
-        return True
-
-
 def columns_text() -> Iterator[str]:
     """The tables with their columns, and behind those that name a row the table that it is of."""
     for table, columns in COLUMNS.items():
@@ -107,7 +97,7 @@ def columns_text() -> Iterator[str]:
 
 
 class Checks(Tally):
-    def check_set(self, what: str, folder: pathlib.Path, options: Options, outcome: Outcome) -> None:
+    def compare(self, what: str, folder: pathlib.Path, options: Options, outcome: Outcome) -> None:
         self.is_same(f"{what} is taken", outcome.status != REFUSED, True)
         fault, rows = facts_script.facts_of(outcome.out.encode(), outcome.err.encode())
         self.is_same(f"the facts of {what}", fault, "")
@@ -129,9 +119,6 @@ class Checks(Tally):
         for name, found in rows.items():
             self.is_same(f"the rows of {name} of {what}", [row[0] for row in found], list(range(1, len(found) + 1)))
 
-    def facts(self, *words: object) -> subprocess.CompletedProcess:
-        return self.run("facts.py", *words)
-
     def rows(self, file: str, sql: str) -> list:
         with contextlib.closing(sqlite3.connect(self.room / file)) as connection:
             return connection.execute(sql).fetchall()
@@ -149,24 +136,24 @@ class Checks(Tally):
         written(self.room / "texts/cut", {"text": b"".join(lines[:20])})
         said = '2 of 5 machines without facts; the last, none: refused: table "notes": Short; '
         said += "all: SELECT name, fault FROM machine WHERE fault IS NOT NULL"
-        words = ["facts.py", "--jobs", 2, "--dumps", "sets", "texts", "facts"]
-        self.refuses("many machines", words, said, 3, "")
+        self.refuses("many machines", ["facts.py", "--jobs", 2, "--dumps", "sets", "texts", "facts"], said, 3, "")
         sql = "SELECT dump_sum FROM acpi_table WHERE signature = 'DMAR' AND dump_sum IS NOT NULL"
         wanted = {hashlib.sha256(files["dmar.dat"]).hexdigest() for files in list(sets.values())[:3]}
         self.is_same("the sums of dumps", {row[0] for row in self.rows("facts", sql)}, wanted)
         counts = {name: len(self.rows("facts", f"SELECT id FROM {name}")) for name in COLUMNS}
-        lines = [json.loads(line) for line in self.facts("--json", "--dumps", "sets", "texts").stdout.splitlines()]
+        made = self.run("facts.py", "--json", "--dumps", "sets", "texts").out
+        lines = [json.loads(line) for line in made.splitlines()]
         self.is_same("lines of JSON", {name: sum(line["fact"] == name for line in lines) for name in COLUMNS}, counts)
         written(self.room / "flat", dict.fromkeys(("one", "two"), (self.room / "texts/rack/a/text").read_bytes()))
-        self.facts("flat", "flat.facts")
+        self.run("facts.py", "flat", "flat.facts")
         names = {(line["id"], line["path"]) for line in lines if line["fact"] == "name"}
         self.is_same("their names", names, set(self.rows("facts", "SELECT id, path FROM name")))
 
     def check_progress(self) -> None:
         """A line on a terminal alone, and from two seconds on."""
-        for stream, after, wanted in (
-            (Terminal(), 0, "\rmachine 1\r\x1b[K"), (Terminal(), 2, ""), (io.StringIO(), 0, "")
-        ):
+        for is_terminal, after, wanted in ((True, 0, "\rmachine 1\r\x1b[K"), (True, 2, ""), (False, 0, "")):
+            stream = io.StringIO()
+            stream.isatty = lambda is_terminal=is_terminal: is_terminal
             with contextlib.redirect_stderr(stream):
                 progress = command.Progress("machine")
                 progress.next += after - progress.AFTER
@@ -186,25 +173,24 @@ class Checks(Tally):
         (self.room / "fleet/pipe").mkdir()
         os.mkfifo(self.room / "fleet/pipe/text")
         words = [sys.executable, "-c", ENDS, f"{TOP}/examples:{TOP}/tests", "--jobs", "2", "fleet", "fleet.facts"]
-        found = subprocess.run(words, cwd=self.room, capture_output=True, text=True, check=False, timeout=60)
-        self.is_same(f"the status of a fleet: {found.stderr}", (found.returncode, found.stderr.count("\n")), (3, 1))
+        found = ended(*words, cwd=self.room, timeout=60)
+        self.is_same(f"the status of a fleet: {found.err}", (found.status, found.err.count("\n")), (3, 1))
         wanted = {
             "ENDED": "the process that read it was ended", "LARGE": "there is not enough memory to read it",
             "pipe": "cannot read fleet/pipe/text: it is a pipe, which may never end",
             "long": "it has more than 1,000,000 lines",
         }
-        sql = "SELECT name, fault FROM machine ORDER BY name"
-        machines = dict(self.rows("fleet.facts", sql))
+        machines = dict(self.rows("fleet.facts", "SELECT name, fault FROM machine ORDER BY name"))
         self.is_same("those without facts", {name: fault for name, fault in machines.items() if fault}, wanted)
         names = [f"good{number:02d}" for number in range(12)] + ["odd\\xFF"]
         self.is_same("those with facts", [name for name, fault in machines.items() if fault is None], names)
 
     def check_questions(self) -> None:
         """The questions of tests/facts.txt, each with a row of its answer a line."""
-        self.facts(TOP / "tests/records.text", "records.facts")
+        self.run("facts.py", TOP / "tests/records.text", "records.facts")
         for name in ("wired", "pci"):
             outcome = run_folder(written(self.room / name, tables(*SETS[name])), Options())
-            self.facts(self.text(f"{name}.text", outcome.out), f"{name}.facts")
+            self.run("facts.py", self.text(f"{name}.text", outcome.out), f"{name}.facts")
         for head, rows in parts_in("facts.txt")[1:]:
             (name, _, file), lines = head.rpartition(": "), rows.split("\n")
             wanted = [ast.literal_eval(line) for line in lines if line.startswith("(")]
@@ -212,23 +198,22 @@ class Checks(Tally):
             self.is_same(name, found, wanted)
 
     def check_words(self) -> None:
-        """What the command line refuses, and outputs that take nothing. Files without facts stay, and facts where a run
-        fails."""
+        """What the command line refuses. Files without facts stay, and facts where a run fails."""
         text, notes, out, other = files = "texts/rack/a/text", "sets/none/notes", "out", "other"
         (self.room / out).write_bytes((self.room / "facts").read_bytes())
         self.rows(other, "CREATE TABLE machine (name TEXT)")
         kept = {file: (self.room / file).read_bytes() for file in files}
         for words in ([text], ["--json", text, out], ["--jobs", "0", text, out], ["--dumps", "none", text, out], []):
-            self.is_same(f"status of {words}", self.facts(*words).returncode, 2)
+            self.is_same(f"status of {words}", self.run("facts.py", *words).status, 2)
         others = [notes, out], ["--errors", text, text, out], [notes, "new"]
         taken = ["nowhere", out], *([text, file] for file in (text, notes, other, ".", "/dev/full/facts"))
         for status, words in [*((1, words) for words in others), *((2, words) for words in taken)]:
-            found = self.facts(*words)
-            self.is_same(f"{words}: {found.stderr}", (found.returncode, found.stderr.count("\n")), (status, 1))
+            found = self.run("facts.py", *words)
+            self.is_same(f"{words}: {found.err}", (found.status, found.err.count("\n")), (status, 1))
         self.is_same("what stays", {file: (self.room / file).read_bytes() for file in files}, kept)
         self.is_same("no part is left", [it for it in os.listdir(self.room) if ".part" in it or it == "new"], [])
-        self.is_same("one that isn't there", self.facts("nowhere", out).stderr.count("nowhere"), 1)
-        status, is_kept = self.facts(text, out).returncode, (self.room / out).read_bytes() == kept[out]
+        self.is_same("one that isn't there", self.run("facts.py", "nowhere", out).err.count("nowhere"), 1)
+        status, is_kept = self.run("facts.py", text, out).status, (self.room / out).read_bytes() == kept[out]
         self.is_same("facts in place of facts", (status, is_kept), (0, False))
         written(self.room / "listed/none/dumps", {"dsdt.dat": b"DSDT"})
         said = "no listing is in 'listed/none': a file `text` is one, in a folder of each machine"
@@ -242,15 +227,10 @@ def main() -> None:
     words = asked(__doc__, sets=40, folders=())
     with Checks() as checks:
         for sample in samples(checks.room, words.folders, words.sets):
-            checks.check_set(*sample)
+            checks.compare(*sample)
         checks.room /= "many"
         checks.room.mkdir()
-        checks.check_many()
-        checks.check_fleet()
-        checks.check_progress()
-        checks.check_questions()
-        checks.check_words()
+        checks.check_all()
 
 
-if __name__ == "__main__":
-    main()
+main()

@@ -27,7 +27,7 @@ shows() {
     name=$1
     shift
     row "$name" 0 '' ./program "$@"
-    prints <demo.text
+    prints <"$sources/stdout"
 }
 
 # lists NAME STATUS LINES WORD..: the same of the program with these words, and its text is what the independent reading says
@@ -74,18 +74,17 @@ cut_off() {
     is "$1" "$(cat status) $(sed "s/^acpidis: write failed after $2 bytes\$/that/" error)" '4 that'
 }
 
-# table FILE SIGNATURE AML: writes a table with this AML, which is given in hexadecimal digits
+# table FILE SIGNATURE AML: writes a table with this AML, which is given in hexadecimal digits, and makes its folder
 table() {
+    mkdir -p "${1%/*}"
     PYTHONPATH=$top/tests:$top/tests/oracle python3 -B -c 'import sys
 from made_aml import table
 open(sys.argv[1], "wb").write(table(sys.argv[2].encode(), bytes.fromhex(sys.argv[3])))' "$@"
 }
 
-cp "$sources/stdout" demo.text
 fresh
 
 # a folder with a body that calls what nothing declares, among others; the last table has a wrong checksum in `summed`
-mkdir raw
 table raw/dsdt.dat DSDT '140E4141414100A442424242010A0514084343434300A460'
 table raw/ssdt1.dat SSDT '140B4444444400A442424242'
 cp -r raw summed
@@ -143,7 +142,6 @@ truncate -s 16777217 counts
 refused 'argument counts of too many bytes' 'cannot read "counts"' --externals counts folder
 
 # the number of workers changes nothing: of 300 bodies two in three can't be read
-mkdir crowd
 table crowd/dsdt.dat DSDT "$(python3 -c 'print("".join(
     "140B" + (b"M%03d" % number).hex() + ("00A442424242" if number % 3 else "00A44D303030") for number in range(300)))')"
 ./program crowd >crowd.text 2>crowd.errors
@@ -154,15 +152,14 @@ for workers in 1 2 3 64; do
 done
 
 # standard output that can't be written: more lines than a pipe holds, of which one is read
-mkdir long
 table long/dsdt.dat DSDT "$(python3 -c 'print("".join("08" + (b"N%03X" % number).hex() + "00" for number in range(4096)))')"
 row 'a long listing' 0 '' ./program long
 { ./program long 2>error; echo $? >status; } | head -n 1 >first
 cut_off 'a pipe that is closed' '[0-9]*'
 head -n 1 output | cmp -s - first || fail 'a pipe that is closed: another first line'
 if [ -w /dev/full ]; then
+    # shellcheck disable=SC2086
     for words in folder long '--check folder' raw; do
-        # shellcheck disable=SC2086
         ./program $words >/dev/full 2>error
         echo $? >status
         cut_off "a full standard output, $words" 0
@@ -214,7 +211,7 @@ led() {
     row "$name, to a terminal" 1 "$line
 $way" python3 terminal.py ./program "$@"
 }
-mkdir twice scope alias return named
+mkdir named
 table twice/dsdt.dat DSDT 084141414100084141414100
 table scope/dsdt.dat DSDT 100541414141
 table alias/dsdt.dat DSDT 064242424241414141
@@ -240,10 +237,7 @@ ln -s dsdt.dat folder/alike.dat
 ln -s nowhere folder/broken.dat
 ln -s sub folder/subs
 mkfifo folder/pipe
-python3 - <<'P'
-import socket
-socket.socket(socket.AF_UNIX).bind('folder/socket')
-P
+python3 -c 'import socket; socket.socket(socket.AF_UNIX).bind("folder/socket")'
 shows 'folders, links, a pipe, a socket' folder
 rmdir folder/tables.map
 printf 'no map\n' >map
@@ -251,7 +245,7 @@ ln -s ../map folder/tables.map
 shows 'a map that is a link' folder
 
 # a folder as Linux has it under /sys/firmware/acpi/tables: names without a dot, and the folders data and dynamic
-mkdir -p system/data system/dynamic
+mkdir -p system/data
 cp "$demo/dsdt.dat" system/DSDT
 table system/SSDT10 SSDT 084242424200
 table system/SSDT9 SSDT 084141414100
@@ -269,6 +263,7 @@ refused 'a text longer than a header' 'table "README": Short' --any-sum system
 # maps: each with the words of its refusal
 while IFS='|' read -r name line text; do
     fresh
+    cp folder/dsdt.dat folder/other.dat
     printf '%b' "$text" >folder/tables.map
     refused "$name" "$line" folder
 done <<'T'
@@ -281,14 +276,11 @@ the map itself|tables.map line 1: NoSuchFile|0000000000001000 tables.map\n
 no name|tables.map line 1: NoSuchFile|0000000000001000 \n
 a name that is no text|tables.map line 1: NoSuchFile|0000000000001000 \0377\n
 a line twice|tables.map line 2: Again|0000000000001000 dsdt.dat\n0000000000001000 dsdt.dat\n
+an address twice|tables.map line 2: Again|0000000000001000 dsdt.dat\n0000000000001000 other.dat\n
 T
+rm folder/other.dat
 : >folder/tables.map
 shows 'an empty map' folder
-
-cp folder/dsdt.dat folder/ssdt.dat
-printf '0000000000001000 dsdt.dat\n0000000000001000 ssdt.dat\n' >folder/tables.map
-refused 'an address twice' 'tables.map line 2: Again' folder
-rm folder/tables.map
 truncate -s 16777217 folder/tables.map
 refused 'a map of too many bytes' 'cannot read "tables.map"' folder
 truncate -s 16777216 folder/tables.map
@@ -314,12 +306,10 @@ refused 'names in the order of their bytes' 'table "dsdt.dat": TwoDsdts' folder
 # a file that can't be read, by a user who may not
 if [ "$(id -u)" = 0 ] && command -v setpriv >/dev/null; then
     printf 'no map\n' >folder/tables.map
+    # shellcheck disable=SC2086
     while IFS='|' read -r what files words; do
-        # shellcheck disable=SC2086
         chmod 000 $files
-        # shellcheck disable=SC2086
         row "$what may not be read" 1 "acpidis: cannot read $what" setpriv --reuid=65534 --clear-groups ./program $words
-        # shellcheck disable=SC2086
         chmod 755 $files
     done <<'T'
 "dsdt.dat"|folder/dsdt.dat folder/second.dat|folder

@@ -1,13 +1,11 @@
 #!/usr/bin/env python3
-"""Gives the scripts of examples/ texts that no run of acpidis prints: each has to take it in time, or say in a line why not.
+"""Gives the scripts of examples/ texts that no run prints: each has to take it in time, or say in a line why not.
 
     python3 tests/hostile.py [--mutations N]
 
-First come texts that are written down here, for page.py, facts.py, asl.py, calls.py and missing.py, each with at most 2 seconds
-of processor time and 1 GB of memory; then files of errors that are others, outputs that take nothing or a part, and pipes;
-then N damaged listings, 500 if left out, for page.py, facts.py and asl.py: nothing but a word may come of them. The
-last line is 'N passed, N failed'.
-"""
+First come texts that are written down here, for page.py, facts.py, asl.py, calls.py and missing.py, each with at most
+2 seconds of processor time and 1 GB of memory; then files of errors that are others, outputs that take nothing or a
+part, and pipes; then damaged listings for page.py, facts.py and asl.py: nothing but a word may come of them."""
 
 import os
 import pathlib
@@ -33,16 +31,16 @@ SECONDS, MOST_MEMORY = 2, 1_000_000_000
 SAMPLES = {"pages": PAGES_FILES, "hostile": HOSTILE_FILES, "runs": RUNS_FILES, **VERSIONS}
 
 
-def head_of(file: str, signature: str, revision: int = 2) -> str:
-    names = f'Table "{file}" "{signature}" Length 67 Revision {revision} Oem "TEST  " "EXAMPLE "'
+def head_of(file: str, signature: str, revision: int = 2, length: int = 67) -> str:
+    names = f'Table "{file}" "{signature}" Length {length} Revision {revision} Oem "TEST  " "EXAMPLE "'
     return f'{names} 00000001 Creator "TEST" 00000001\n'
 
 
-def text_of(rows: list, lines: list, file: str = "d", revision: int = 2) -> str:
+def text_of(rows: list, lines: list, file: str = "d", **more: int) -> str:
     """A listing with these rows, and with these lines in its one definition block."""
     shown, inside = ("".join(f"  {it}\n" for it in some) for some in (rows, lines))
     block = f'DefinitionBlock ("{file}") {{\n{inside}}}\n'
-    return f"{head_of(file, 'DSDT', revision)}Namespace {len(rows)}\n{shown}{block}"
+    return f"{head_of(file, 'DSDT', **more)}Namespace {len(rows)}\n{shown}{block}"
 
 
 def repeated(form: re.Match) -> str:
@@ -54,7 +52,6 @@ NAMES = [f"S{number:03d}" for number in range(200)]
 ROWS = [f"\\{'.'.join(NAMES[:number])} Device" for number in range(1, 201)]
 OPENED = [f"{'  ' * number}Device ({name}) {{" for number, name in enumerate(NAMES)]
 CLOSED = ["  " * number + "}" for number in range(199, -1, -1)]
-# The texts by what they are
 TEXTS = {"200 scopes in each other": text_of(ROWS, OPENED + CLOSED)}
 for what, lines in parts_in("hostile.txt")[1:]:
     lines = re.sub(r"<(.*?)\*(\d+)>", repeated, lines).split("\n")
@@ -87,10 +84,10 @@ def mutated(lines: list, dice: random.Random) -> str:
     return "\n".join(lines) + "\n"
 
 
-def make_page(text: bytes, errors: bytes, is_packed: bool) -> None:
+def make_page(text: bytes, errors: bytes, is_packed: bool) -> str:
     sheet = Sheet.of(text, is_packed=is_packed)
-    sheet.faults = read_errors(errors, sheet.listing)
-    page(sheet)
+    sheet.faults = read_errors(errors, sheet.listing) if errors else {}
+    return page(sheet)
 
 
 def make_asl(text: pathlib.Path) -> None:
@@ -105,7 +102,7 @@ class Checks(Tally):
         bound = lambda: resource.setrlimit(resource.RLIMIT_AS, (MOST_MEMORY, MOST_MEMORY))
         how = {"stdout": printed, "env": {**os.environ, **variables}, "preexec_fn": bound}
         done, seconds = timed(self.run, script, *words, most=SECONDS, **how)
-        return done.returncode, done.stderr, seconds
+        return done.status, done.err, seconds
 
     def check_texts(self) -> None:
         fake = executable(self.room / "acpidis", f"#!/bin/sh\nexec cat '{self.room}/text'\n")
@@ -165,7 +162,7 @@ class Checks(Tally):
         left = ["dump", "fifo", "new", "printed", "text"]
         self.is_same("what is left of the parts", sorted(os.listdir(room)), left)
 
-    def check_mutations(self, count: int) -> None:
+    def mutate(self, count: int) -> None:
         """Damaged listings are read, or are no listings."""
         outcomes = [run_dumps(dumps_of(files), Options(any_run=True)) for files in SAMPLES.values()]
         dice, refused = random.Random(0), 0
@@ -191,10 +188,8 @@ class Checks(Tally):
 def main() -> None:
     count = asked(__doc__, mutations=500).mutations
     with Checks() as checks:
-        checks.check_texts()
-        checks.check_outputs()
-        checks.check_files()
-        checks.check_mutations(count)
+        checks.check_all()
+        checks.mutate(count)
 
 
 if __name__ == "__main__":

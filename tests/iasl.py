@@ -2,10 +2,10 @@
 
 import pathlib
 import re
-import subprocess
 from collections import namedtuple
 
-# What a keyword of ASL is in our words
+from trying import ended
+
 LINES = (pathlib.Path(__file__).parent / "iasl.txt").read_text().splitlines()[1:]
 KEYWORDS = dict(line.split(" ", 1) for line in LINES)
 FIELD = re.compile(r"^ *(?:Index|Bank)?Field \((.*)\)$", re.M)
@@ -20,8 +20,7 @@ def facts_of(data: bytes, room: pathlib.Path) -> "dict[str, list] | None":
     for file in room.iterdir():
         file.unlink()
     (room / "table.aml").write_bytes(data)
-    run = subprocess.run(["iasl", "-d", "table.aml"], cwd=room, capture_output=True, stdin=subprocess.DEVNULL, check=False)
-    if run.returncode or not (room / "table.dsl").exists():
+    if ended("iasl", "-d", "table.aml", cwd=room).status or not (room / "table.dsl").exists():
         return None
     text = re.sub(r"//.*|/\*.*?\*/", "", (room / "table.dsl").read_text("latin-1"))
     # The standard's word has a capital O.
@@ -77,7 +76,8 @@ class Macro(namedtuple("Macro", "kind arguments listed words")):
 def macro_text(form: "re.Match[str]") -> str:
     arguments = [one.strip() for one in form[2].split(",")]
     listed = [str(int(one, 0)) for one in (form[3] or "").replace(",", " ").split()]
-    macro = Macro(form[1].removesuffix("V2"), arguments, listed, [KEYWORDS[one] for one in arguments if one in KEYWORDS])
+    words = [word for keyword, word in KEYWORDS.items() if keyword in arguments]
+    macro = Macro(form[1].removesuffix("V2"), arguments, listed, words)
     place = next((at for at, one in enumerate(arguments) if one[:1] == '"' and one != '""'), None)
     shown = list(TEXTS.get(macro.kind, spaced)(macro))
     if place is not None:
@@ -115,44 +115,27 @@ def register(macro: Macro) -> tuple:
 
 def spaced(macro: Macro) -> tuple:
     """An address space."""
-    numbers, words = macro.numbers, macro.words
-    if macro.kind.endswith("Space"):
-        kind_number, kept, *numbers = numbers
-        words = [f"of kind 0x{kind_number:02X}", *words]
-    gran, first, last, translation, length = numbers[:5]
+    is_special = macro.kind.endswith("Space")
+    gran, first, last, translation, length = macro.numbers[2 * is_special :][:5]
     digits = {"W": 4, "D": 8, "Q": 16, "E": 16}[macro.kind[0]]
-    if "ResourceConsumer" in macro.arguments:
-        words.append("consumer")
-    words = [word.replace("the other", "I/O" if macro.kind.endswith("Memory") else "memory") for word in words]
-    rank = lambda word: [word.startswith(head) for head in ORDER].index(True)
     to = "" if last == first else f" to 0x{last:0{digits}X}"
+    other = "I/O" if macro.kind.endswith("Memory") else "memory"
     return (
-        f"{macro.kind} 0x{first:0{digits}X}{to} +0x{length:X}", *sorted(words, key=rank),
+        f"{macro.kind} 0x{first:0{digits}X}{to} +0x{length:X}", f"of kind 0x{macro.numbers[0]:02X}" * is_special,
+        "consumer" * ("ResourceConsumer" in macro.arguments), *(it.replace("the other", other) for it in macro.words),
         f"granularity 0x{gran:X}" if gran else "", f"translation 0x{translation:X}" if translation else "",
     )
 
 
-ORDER = (
-    "of kind", "consumer", "subtractive", "first not fixed", "last not fixed", "read-only", "not cacheable", "write-combining",
-    "prefetchable", "non-ISA range", "ISA range", "reserved", "ACPI data", "NVS", "as", "sparse",
-)
-
-
 def gpio(macro: Macro) -> tuple:
-    pull = [word for word in macro.words if word.startswith(("pull", "no pull"))]
-    mode, debounce, strength = [word for word in macro.words if word not in pull], macro.numbers[0], 0
-    if macro.kind == "GpioIo":
-        mode.sort(key=lambda word: word == "shared")
-        strength = macro.numbers[1]
-    more = f"drive {strength}" if strength else "", f"debounce {debounce}" if debounce else ""
-    return macro.kind, macro.lines, *mode, *pull, *more
+    debounce, drive = macro.numbers[0], macro.numbers[1] if macro.kind == "GpioIo" else 0
+    more = f"drive {drive}" if drive else "", f"debounce {debounce}" if debounce else ""
+    return macro.kind, macro.lines, *macro.words, *more
 
 
-SPI_ORDER = ("device initiated", "3 wires", "select high", "second phase", "polarity high", "shared")
 TEXTS = {
-    "IRQ": lambda it: ("IRQ", it.lines, *it.words),
+    **dict.fromkeys(("IRQ", "DMA"), lambda it: (it.kind, it.lines, *it.words)),
     "IRQNoFlags": lambda it: ("IRQ", it.lines, "edge"),
-    "DMA": lambda it: ("DMA", it.lines, *(KEYWORDS.get(it.arguments[place], "") for place in (0, 2, 1))),
     "FixedDMA": lambda it: (it.kind, str(it.numbers[0]), f"channel {it.numbers[1]}", *it.words),
     "StartDependentFn": lambda it: (it.kind, "priority {} robustness {}".format(*(int(one, 0) for one in it.arguments[:2]))),
     **dict.fromkeys(("StartDependentFnNoPri", "EndDependentFn"), lambda it: (it.kind,)),
@@ -162,8 +145,5 @@ TEXTS = {
     "UartSerialBus": lambda it: (it.kind, f"{it.numbers[0]} baud", *it.words),
     "IO": io, "FixedIO": fixed, "Memory32Fixed": fixed, "Memory24": memory, "Memory32": memory, "Register": register,
     "GpioInt": gpio, "GpioIo": gpio,
-    "SpiSerialBus": lambda it: (
-        f"{it.kind} 0x{it.numbers[0]:04X} {it.numbers[2]} Hz {it.numbers[1]} bits",
-        *sorted(it.words, key=SPI_ORDER.index),
-    ),
+    "SpiSerialBus": lambda it: ("{3} 0x{0:04X} {2} Hz {1} bits".format(*it.numbers[:3], it.kind), *it.words),
 }  # fmt: skip

@@ -8,10 +8,6 @@ files() {
     find "$1" -type f -o -type l | LC_ALL=C sort
 }
 
-modes() {
-    find "$1" -printf '%m %y\n' | sort | uniq -c | awk '{ print $2 $3 }' | tr '\n' ' '
-}
-
 # sorted COMMAND..: what it prints, in order
 sorted() {
     "$@" 2>&1 | LC_ALL=C sort
@@ -35,7 +31,7 @@ for file in bin/acpidis share/man/man1/acpidis.1 $(printf 'share/%s ' $shells) s
 done
 is 'it runs' "$("$prefix/bin/acpidis" "$demo")" "$(cat "$sources/stdout")"
 is 'it is what the launcher runs' "$(cksum <"$prefix/bin/acpidis")" "$(cksum <"$("$top/acpidis" --program)")"
-is 'modes, whatever the umask' "$(modes "$prefix/share")" '644f 755d 755f 777l '
+is 'modes, whatever the umask' "$(find "$prefix/share" -printf '%m %y|\n' | sort -u | tr -d '\n')" '644 f|755 d|755 f|777 l|'
 is 'examples that are run' "$(find "$prefix/share" -type f -perm 755 | wc -l)" \
     "$(find "$top/examples" -type f -perm /111 | wc -l)"
 is 'the mode of the program' "$(stat -c %a "$prefix/bin/acpidis")" 755

@@ -4,25 +4,22 @@ status.
 
     python3 tests/large_sets.py [--stop] [PROGRAM]
 
-PROGRAM is out/acpidis if left out. With --stop the first run that fails ends it. What has to come of most sets the
-independent reading of tests/oracle says; of a long body, a name of sixteen million `^` and a million methods it is
-written down here, after docs/listing.md, docs/limits.md and docs/names.md. The last line is 'N passed, N failed'.
-"""
+What has to come of most sets the independent reading of tests/oracle says; of a long body, a name of sixteen million
+`^` and a million methods it is written down here, after docs/listing.md, docs/limits.md and docs/names.md."""
 
-import concurrent.futures
 import gc
 import itertools
-import os
 from collections import namedtuple
 
-from tally import PROGRAM, Tally, asked
+from tally import PROGRAM, Outcome, Tally, asked, side_by_side
 import hostile_shapes as shapes
 from compare import difference_of, laid, run_program
 from dumps import HEADER_LENGTH, MOST_BYTES, MOST_DUMPS, dumps_of
+from hostile import text_of
 from loading import MOST_METHODS
 from made_code import MOST_SEGMENTS
-from made_aml import SETS, device, method, scope, segment, table, tables
-from running import DONE, RAW, Options, Outcome, refused, run, run_folder
+from made_aml import SETS, device, each, method, scope, segment, table, tables
+from running import DONE, RAW, Options, refused, run, run_folder
 
 LIST, CHECK = Options(), Options(check=True)
 LIST_RUNS, CHECK_RUNS = Options(any_run=True), Options(any_run=True, check=True)
@@ -31,22 +28,17 @@ MOST_SHOWN = 400
 BLOCK = "dsdt.dat"
 # How many bytes a large method has in front of its body.
 METHOD_LENGTH = 10
-# The text of a table that `table` makes, up to its length and behind it.
-BEGUN, ENDED = f'Table "{BLOCK}" "DSDT" Length ', ' Revision 2 Oem "TEST  " "EXAMPLE " 00000001 Creator "TEST" 00000001\n'
-
 # How many of the cuts, the whole tables among them, are taken, and how many bodies of two bytes are read as terms.
 TAKEN_CUTS, READ_BODIES = 60, 880
 # The methods of the mixed order, and how many names are looked up that nothing declares. The step has no factor in common
 # with the number of methods, so that each comes once.
 MIXED, OTHERS, STEP = 20_000, 500, 7_919
-# So many rows are printed in pieces, by workers; with a path inside of so many Devices by the caller. With so many
-# more they are printed by two harvests.
+# Rows that workers print in pieces, the depth of a path with which the caller does, and rows for a second harvest
 ROWS, LONG, LATER = 8_192, 70, 30_000
 # So many tables of so many methods have more bytes than the caller reads alone.
 BESIDE, CALLING = 5, 1_000
 # The Aliases of a chain, of which each so manieth is called, and the methods inside a Scope of what is no scope
 CHAINED, STRIDE, INNER = 1_000, 50, 100
-
 
 # A set, the options of a run over it, and how that has to end; the independent reading says it where nothing stands
 Trial = namedtuple("Trial", "name files options wanted externals", defaults=[LIST, None, None])
@@ -67,9 +59,8 @@ def check(checks, trial, difference):
 
 def cuts():
     for number, code in enumerate(SETS["cuts"], 1):
-        for length in range(len(code) + 1):
-            for options in LIST, CHECK:
-                yield Trial(f"table {number} cut to {length} bytes", tables(code[:length]), options)
+        for length, options in itertools.product(range(len(code) + 1), (LIST, CHECK)):
+            yield Trial(f"table {number} cut to {length} bytes", tables(code[:length]), options)
 
 
 def listed_and_checked(name, files, checks):
@@ -87,7 +78,7 @@ def check_line(file, size, methods, raw):
 
 def bodies_of_two_bytes():
     count = 1 << 16
-    code = b"".join(b"\x14\x08" + segment(number) + b"\0" + number.to_bytes(2, "big") for number in range(count))
+    code = b"".join(method(segment(number), 0, number.to_bytes(2, "big"), width=1) for number in range(count))
     check = check_line(BLOCK, len(code), count, count - READ_BODIES)
     return listed_and_checked("all bodies of two bytes", tables(code), [check])
 
@@ -96,10 +87,9 @@ def a_mixed_order():
     """Methods of 0 to 7 arguments, and in an SSDT a call of each in the order of their names, in one body. Of names that
     nothing declares each stands in a body of its own."""
     mixed = (place * STEP % MIXED for place in range(MIXED))
-    code = b"".join(b"\x14\x06" + segment(number) + bytes([number % 8]) for number in mixed)
+    code = b"".join(method(segment(number), number % 8, width=1) for number in mixed)
     calls = method(b"MAIN", 0, *(segment(number) + b"\x60" * (number % 8) for number in range(MIXED)))
-    others = (method(b"Z%03d" % number, 0, segment(MIXED + number)) for number in range(OTHERS))
-    calls += b"".join(others)
+    calls += b"".join(method(b"Z%03d" % number, 0, segment(MIXED + number)) for number in range(OTHERS))
     checks = [check_line(BLOCK, len(code), MIXED, 0), check_line("ssdt1.dat", len(calls), OTHERS + 1, OTHERS)]
     return listed_and_checked("methods in a mixed order", tables(code, calls), checks)
 
@@ -116,8 +106,7 @@ def what_has_a_limit():
     for count in MOST_DUMPS, MOST_DUMPS + 1:
         yield Trial(f"{count} empty files", dict.fromkeys(map(str, range(count)), b""))
         yield Trial(f"{count} tables", tables(*(shapes.name(segment(number)) for number in range(count))))
-    most = tables(*(shapes.name(segment(number)) for number in range(MOST_DUMPS)))
-    yield Trial(f"{MOST_DUMPS} tables", most, CHECK)
+    yield Trial(f"{MOST_DUMPS} tables", tables(*(shapes.name(segment(number)) for number in range(MOST_DUMPS))), CHECK)
     for size in MOST_BYTES, MOST_BYTES + 1:
         yield Trial(f"{size} zeros", {BLOCK: bytes(size)})
         yield Trial(f"a table in {size} bytes", {BLOCK: table(b"DSDT", SETS["cuts"][0]).ljust(size, b"\0")})
@@ -148,8 +137,7 @@ def below_maybes():
 
 
 def chains_of_aliases():
-    """Aliases of Aliases, the first of which may be that of one method or of another, may be there, or is; and what
-    calls them."""
+    """Aliases of Aliases, the first of which may be that of two methods, may be there, or is; and what calls them."""
     methods = method(b"MET1", 1) + method(b"MET2", 2)
     first, second = (b"\x06" + name + segment(0) for name in (b"MET1", b"MET2"))
     maybe = shapes.block(first)
@@ -182,16 +170,14 @@ def scopes_of_no_scope():
 
 def rows_in_pieces():
     """Names as many as whole pieces have, others besides, Aliases of these, and one with a long path."""
-    named, deep = [shapes.name(segment(number)) for number in range(ROWS)], device(b"LONG")
+    named, deep = each(ROWS, shapes.name), device(b"LONG")
     for number in range(LONG):
         deep = device(segment(number), deep)
-    some, later = (
-        b"".join(b"\x06" + segment(number % ROWS) + segment(ROWS + number) for number in range(count))
-        for count in (INNER, LATER)
-    )
+    later = b"".join(shapes.alias(segment(ROWS + number), segment(number % ROWS)) for number in range(LATER))
+    some = later[: INNER * len(shapes.alias(shapes.LEAF))]
     others = {"": b"", " and others": some, ", and many": later, ", one of a long path": device(b"DEEP", deep) + some}
     for what, more in others.items():
-        yield from by_workers(f"rows in pieces{what}", b"".join(named) + more)
+        yield from by_workers(f"rows in pieces{what}", named + more)
 
 
 def texts_beside_the_load():
@@ -210,10 +196,9 @@ def texts_beside_the_load():
 
 def of_methods(name, code, names, lines=()):
     """The listing and the check of a table of methods of these names, whose bodies have these lines."""
-    rows = [f"  \\{it} Method 0\n" for it in names]
-    block = [line for it in names for line in (f"  Method ({it}, 0, NotSerialized, 0) {{\n", *lines, "  }\n")]
-    head = f"{BEGUN}{HEADER_LENGTH + len(code)}{ENDED}Namespace {len(names)}\n"
-    text = "".join([head, *rows, f'DefinitionBlock ("{BLOCK}") {{\n', *block, "}\n"])
+    rows = [f"\\{it} Method 0" for it in names]
+    block = [line for it in names for line in (f"Method ({it}, 0, NotSerialized, 0) {{", *lines, "}")]
+    text = text_of(rows, block, BLOCK, length=HEADER_LENGTH + len(code))
     yield Trial(name, tables(code), LIST, Outcome(DONE, text, ""))
     yield Trial(name, tables(code), CHECK, Outcome(DONE, check_line(BLOCK, len(code), len(names), 0), ""))
 
@@ -221,18 +206,16 @@ def of_methods(name, code, names, lines=()):
 def a_long_body():
     count = 100_000
     code = method(b"MAIN", 0, b"\xA4\x72\x60\x61\x00" * count)
-    return of_methods("a long body", code, ["MAIN"], ["    Return (Add (Local0, Local1, ))\n"] * count)
+    return of_methods("a long body", code, ["MAIN"], ["  Return (Add (Local0, Local1, ))"] * count)
 
 
 def parent_prefixes():
     """A name of as many `^` as a table has room for leads above the root. As a target it is printed, and asked for nothing."""
     room = MOST_BYTES - HEADER_LENGTH
     name = b"^" * (room - 6) + b"BBBB"
-    above = refused(f'table "{BLOCK}": AboveRoot')
-    yield Trial("a declared name of ^", tables(b"\x08" + name + b"\0"), LIST, above)
+    yield Trial("a declared name of ^", tables(b"\x08" + name + b"\0"), LIST, refused(f'table "{BLOCK}": AboveRoot'))
     name = b"^" * (room - METHOD_LENGTH - 5) + b"BBBB"
-    code = method(b"MAIN", 0, b"\x71" + name)
-    yield from of_methods("a target of ^", code, ["MAIN"], [f"    RefOf ({name.decode()})\n"])
+    yield from of_methods("a target of ^", method(b"MAIN", 0, b"\x71" + name), ["MAIN"], [f"  RefOf ({name.decode()})"])
 
 
 def the_most_methods():
@@ -259,11 +242,9 @@ LARGE = (
 def check_cuts(checks, program):
     """Each cut, by several processes, and how many of them are taken."""
     trials, taken = list(cuts()), 0
-    with concurrent.futures.ThreadPoolExecutor(len(os.sched_getaffinity(0))) as pool:
-        ended = pool.map(tried, itertools.repeat(program), trials)
-        for trial, (difference, status) in zip(trials, ended):
-            check(checks, trial, difference)
-            taken += status in (DONE, RAW)
+    for trial, (difference, status) in zip(trials, side_by_side(lambda trial: tried(program, trial), trials)):
+        check(checks, trial, difference)
+        taken += status in (DONE, RAW)
     checks.is_same("cuts that are taken", taken, 2 * TAKEN_CUTS)
 
 
@@ -275,5 +256,4 @@ def main():
             check(checks, trial, tried(words.program, trial)[0])
 
 
-if __name__ == "__main__":
-    main()
+main()

@@ -1,8 +1,7 @@
 #!/bin/sh
 # The launcher ./acpidis and the script ./build: the demo, the help, crates side by side, and what they say where they can't
-# build. With the word copy only the rows that need no built program are tried: they use a
-# copy of the launcher beside a command rt that only pretends. Else the program is built first where that is wanted. With the
-# word real only the rows that need it are tried.
+# build. With the word copy only the rows that need no built program are tried: they use a copy of the launcher beside a command
+# rt that only pretends. Else the program is built first where that is wanted. With the word real only the others are tried.
 
 . "$(dirname -- "$0")/rows.sh"
 
@@ -21,16 +20,18 @@ row() {
     fi
 }
 
-# same NAME: what was printed is the demo's text and nothing else
-same() {
-    if cmp -s printed "$top/crates/acpidis_program/stdout"; then pass; else fail "$1"; fi
+# lists NAME WORD..: the command prints the demo's text and nothing else
+lists() {
+    listed=$1
+    shift
+    row "$listed" 0 '    Return (Arg0)' "$@"
+    if cmp -s printed "$sources/stdout"; then pass; else fail "$listed, and nothing else"; fi
 }
 
-mkdir copy empty commands folder
+mkdir -p copy/docs copy/crates/acpidis_program/data/demo empty commands folder
 cp "$top/acpidis" "$top/build" "$top/crates.txt" copy
-mkdir copy/docs && cp "$top/docs/help.txt" copy/docs
-mkdir -p copy/crates/acpidis_program/data/demo
-cp -r "$top/crates/acpidis_program/src" copy/crates/acpidis_program
+cp "$top/docs/help.txt" copy/docs
+cp -r "$sources/src" copy/crates/acpidis_program
 sed -n 's/^\([a-z_]*\)[ :].*/\1/p' copy/crates.txt | while read -r crate; do mkdir -p "copy/crates/$crate/src"; done
 path=$work/commands:/usr/bin:/bin
 
@@ -38,25 +39,18 @@ path=$work/commands:/usr/bin:/bin
 real_rows() {
     "$top/acpidis" --program >/dev/null 2>&1
     ln -s "$top/acpidis" link
-    row 'the demo' 0 '    Return (Arg0)' "$top/acpidis" demo
-    same 'the demo and nothing else'
+    lists 'the demo' "$top/acpidis" demo
     row 'a check of the demo' 0 'Check "dsdt.dat" Bytes 9 Methods 1 Raw 0 Same' "$top/acpidis" --check demo
-    row 'the demo between options' 0 '    Return (Arg0)' "$top/acpidis" --workers 2 demo --any-sum
-    same 'the demo between options, and nothing else'
-    row 'the demo, as any run declares it' 0 '    Return (Arg0)' "$top/acpidis" --any-run demo
-    same 'the demo, as any run declares it, and nothing else'
-    row 'a link' 0 '    Return (Arg0)' ./link demo
-    same 'a link, and nothing else'
+    lists 'the demo between options' "$top/acpidis" --workers 2 demo --any-sum
+    lists 'the demo, as any run declares it' "$top/acpidis" --any-run demo
+    lists 'a link' ./link demo
     row 'a file that is named demo' 1 'acpidis: cannot read "demo"' "$top/acpidis" --externals demo demo
     row 'two folders' 2 "For more information, try '--help'." "$top/acpidis" demo demo
-
     is 'the help that needs no build' "$("$top/acpidis" --help)" "$("$top/out/acpidis" --help 2>&1)"
+    end
 }
 
-if [ "${1-}" = real ]; then
-    real_rows
-    end
-fi
+if [ "${1-}" = real ]; then real_rows; fi
 
 # with nothing built, and no kit
 none=$work/empty:/usr/bin:/bin
@@ -69,13 +63,11 @@ row 'no kit' 127 "$nokit" env PATH="$none" copy/acpidis demo
 # a build that fails, with an older program in place
 mkdir copy/crates/acpidis_program/out
 stub=copy/crates/acpidis_program/out/acpidis_program
-printf '#!/bin/sh\necho stale\n' >$stub
-chmod +x $stub
+printf '#!/bin/sh\necho stale\n' | script $stub
 touch -d '2001-01-01' $stub
-printf '#!/bin/sh\necho no proof\nexit 1\n' >commands/rt
-chmod +x commands/rt
-row 'a build that fails' 126 'acpidis: the build failed at the crate aml_names' \
-    env RT_JOBS=1 PATH="$path" copy/acpidis demo
+printf '#!/bin/sh\necho no proof\nexit 1\n' | script commands/rt
+at_fault='acpidis: the build failed at the crate aml_names'
+row 'a build that fails' 126 "$at_fault" env RT_JOBS=1 PATH="$path" copy/acpidis demo
 row 'what the build said' 126 'no proof' env PATH="$path" copy/acpidis demo
 is 'half an hour is announced only where nothing is built' "$(grep -c 'half an hour' printed)" 0
 rm -r copy/crates/acpidis_program/out
@@ -87,13 +79,10 @@ is 'a failed build leaves no program' "$(find copy -name 'acpidis.*')" ''
 # shellcheck disable=SC2016 # the command expands them
 printf '#!/bin/sh\ncase $PWD in *aml_names) sleep 1; exit 1 ;; esac\nps -o pgid= $$ >>"%s/begun"\nsleep 30\n' "$work" >commands/rt
 start=$(date +%s)
-row 'a crate that fails beside others' 126 'acpidis: the build failed at the crate aml_names' \
-    env RT_JOBS=4 PATH="$path" copy/acpidis demo
+row 'a crate that fails beside others' 126 "$at_fault" env RT_JOBS=4 PATH="$path" copy/acpidis demo
 is 'the others are begun' "$(wc -l <begun)" 3
-groups() {
-    ps -e -o pgid=,stat= | awk 'FNR == NR { begun[$1] = 1; next } $1 in begun && $2 !~ /^Z/' begun -
-}
-is 'the others are ended' "$(groups)" ''
+groups=$(ps -e -o pgid=,stat= | awk 'FNR == NR { begun[$1] = 1; next } $1 in begun && $2 !~ /^Z/' begun -)
+is 'the others are ended' "$groups" ''
 is 'at once' "$(($(date +%s) - start < 20))" 1
 
 # a build that works; rt keeps a log of what begins and ends, and of how many jobs
@@ -111,10 +100,7 @@ if [ "\$1" = run ]; then
 fi
 echo "end \$name" >>'$work/log'
 S
-# most: how many crates were built at the same time at most; order: a crate that began before one below it had ended
-most() {
-    awk '/^begin/ { if (++now > most) most = now } /^end/ { now-- } END { print most }' log
-}
+# order: a crate that began before one below it had ended
 order() {
     awk 'FNR == NR {
             if (/^[^#]*:/) { split($0, half, ":"); split(half[1], words, " "); below[words[1]] = half[2] }
@@ -131,7 +117,8 @@ for width in 1 2 4; do
     : >log
     rm -rf copy/crates/acpidis_program/out copy/out
     row "a build, $width at a time" 0 'built|folder|' env PATH="$path" RT_JOBS=$width copy/acpidis folder
-    is "crates at a time of $width" "$(most)" "$width"
+    most=$(awk '/^begin/ { if (++now > most) most = now } /^end/ { now-- } END { print most }' log)
+    is "crates at a time of $width" "$most" "$width"
     is "crates below first, $width at a time" "$(order)" ''
     is "each crate once, $width at a time" "$(grep -c '^begin' log) $(grep -c 'acpidis: built ' printed)" '18 18'
 done
@@ -143,31 +130,28 @@ is 'a crate of a short chain, one job' "$(grep 'begin aml_pool' log)" 'begin aml
 is 'one crate, four processors' "$(grep 'begin acpidis_program' log | cut -d ' ' -f 3-5)" 'run --jobs 4'
 rm -rf copy/crates/acpidis_program/out
 echo 'text_writer 9000' >copy/out/seconds
-row 'a build by the times of the last one' 0 'acpidis: building text_writer (1 of 18)' \
-    env PATH="$path" RT_JOBS=1 copy/acpidis folder
-row 'a built program, without a kit' 0 'built|folder|' env PATH="$none" copy/acpidis folder
-row 'words go to the program' 0 'built|--wrong|a b||' env PATH="$none" copy/acpidis --wrong 'a b' ''
-where=$(cd copy && pwd -P)
-row 'where the program lies' 0 "$where/out/acpidis" env PATH="$none" copy/acpidis --program
-demo=$where/crates/acpidis_program/data/demo
-row 'the word demo' 0 "built|--check|$demo|" env PATH="$none" copy/acpidis --check demo
-row 'demo behind an option' 0 "built|--externals|demo|--workers|demo|$demo|" \
-    env PATH="$none" copy/acpidis --externals demo --workers demo demo
+first='acpidis: building text_writer (1 of 18)'
+row 'a build by the times of the last one' 0 "$first" env PATH="$path" RT_JOBS=1 copy/acpidis folder
 mkdir links
 ln -s ../copy/acpidis links/first
 ln -s first links/second
-row 'a link to a link' 0 'built|folder|' env PATH="$none:$work/links" links/second folder
-row 'a link on the PATH' 0 'built|folder|' env PATH="$none:$work/links" second folder
-cd copy || exit 1
-row 'its own folder' 0 'built|crates|' env PATH="$none" sh acpidis crates
-rm printed
-cd ..
+usual=$PATH PATH=$none:$work/links
+row 'a built program, without a kit' 0 'built|folder|' copy/acpidis folder
+row 'words go to the program' 0 'built|--wrong|a b||' copy/acpidis --wrong 'a b' ''
+where=$(cd copy && pwd -P)
+row 'where the program lies' 0 "$where/out/acpidis" copy/acpidis --program
+demo=$where/crates/acpidis_program/data/demo
+row 'the word demo' 0 "built|--check|$demo|" copy/acpidis --check demo
+wanted="built|--externals|demo|--workers|demo|$demo|"
+row 'demo behind an option' 0 "$wanted" copy/acpidis --externals demo --workers demo demo
+row 'a link to a link' 0 'built|folder|' links/second folder
+row 'a link on the PATH' 0 'built|folder|' second folder
+row 'its own folder' 0 'built|crates|' env -C copy sh acpidis crates
+PATH=$usual
 
 # several at once, each of which has to put the program in its place
-times=${TIMES-20}
 wrong=0
-while [ "$times" -gt 0 ]; do
-    times=$((times - 1))
+for _ in $(seq "${TIMES-20}"); do
     rm -rf copy/out
     for number in 1 2 3 4; do copy/acpidis folder >"at$number" 2>&1 & done
     wait

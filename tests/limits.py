@@ -5,17 +5,13 @@ sets, with 1, 4 and 64 workers.
     python3 tests/limits.py [--short] [--stop] [PROGRAM]
 
 Each run gives the whole text, or nothing but 'acpidis: NoMemory' or 'acpidis: NoThread' with status 1; no signal ends
-it. What the whole text is the independent reading of tests/oracle says, and without limits it has to come. PROGRAM is
-out/acpidis if left out. The sweep takes some minutes, with --short seconds. With --stop the first row that fails ends
-it. The last line is 'N passed, N failed'.
-"""
+it. What the whole text is the independent reading of tests/oracle says, and without limits it has to come. The sweep
+takes some minutes, with --short seconds."""
 
-import subprocess
-
-from tally import PROGRAM, Tally, asked, written
+from tally import PROGRAM, Tally, asked, ended, written
 import hostile_shapes as shapes
 from made_aml import tables
-from running import DONE, Options, Outcome, refused, run_folder
+from running import DONE, Options, refused, run_folder
 
 SETS = {
     "ifs": lambda: shapes.indented(2_000, 508),
@@ -36,15 +32,8 @@ LEAST_STACK, MOST_STACK = 16, 1_040
 ENOUGH = 3
 
 
-def ended(*words, **more):
-    how = {"stdin": subprocess.DEVNULL, "capture_output": True, "text": True, "errors": "replace", "check": False}
-    ran = subprocess.run(words, **how, **more)
-    return Outcome(ran.returncode, ran.stdout, ran.stderr)
-
-
 def limited(option, limit, *words):
-    """How a command ends under a limit of so many KB."""
-    return ended("sh", "-c", 'ulimit "$0" "$1" 2>/dev/null && shift && exec "$@"', option, str(limit), *words)
+    return ended("sh", "-c", 'ulimit "$0" "$1" 2>/dev/null && shift && exec "$@"', option, limit, *words)
 
 
 class Checks(Tally):
@@ -76,7 +65,7 @@ class Checks(Tally):
         outcome = ended(program, *options.words(), folder)
         self.is_so(f"{name} without limits: status {outcome.status}, {outcome.err[:100]}", outcome == whole)
         for workers in steps[2] if outcome == whole else ():
-            command = [program, *options.words(), "--workers", str(workers), folder]
+            command = [program, *options.words(), "--workers", workers, folder]
             self.sweep(f"{name}, {workers} workers", command, whole, least, steps)
 
 

@@ -36,10 +36,10 @@ def table(signature, code, oem_table=b"EXAMPLE"):
     return sealed(signature + b"\0\0\0\0\2\0TEST  " + oem_table.ljust(8) + b"\1\0\0\0TEST\1\0\0\0" + code)
 
 
-def tables(*codes):
+def tables(*codes, make=table):
     """The files of a DSDT with the first of these, and of SSDTs with the others."""
     names = ["dsdt.dat", *(f"ssdt{number}.dat" for number in range(1, len(codes)))]
-    return {name: table(name[:4].upper().encode(), code) for name, code in zip(names, codes)}
+    return {name: make(name[:4].upper().encode(), code) for name, code in zip(names, codes)}
 
 
 def segment(number):
@@ -64,8 +64,7 @@ ATOM = re.compile(r"\s*(?:(\w+)|'([^']*)'|([][]))(?:\s*\*([0-9]+))?\s*")
 
 
 def bytes_of(text):
-    """Two hexadecimal digits a byte, words of opcodes, texts in single quotes, each repeated by `*N`, and in brackets
-    what has a package length in front."""
+    """The bytes of a text in the language of tests/sets.txt, in which `*N` repeats what is in front of it."""
     opened, at = [b""], 0
     while at < len(text.rstrip()):
         atom = ATOM.match(text, at)
@@ -82,7 +81,6 @@ def bytes_of(text):
     return opened[0]
 
 
-# The AML of each table of the sets of tests/sets.txt
 SETS = {
     name: list(map(bytes_of, re.findall(r"^[DS]SDT: ((?:.*\n)(?:  .*\n)*)", part, re.M)))
     for name, part in re.findall(r"^== (.*)\n((?:(?!==).*\n)*)", (TOP / "tests/sets.txt").read_text(), re.M)

@@ -3,21 +3,18 @@
 
     python3 tests/meaning.py [--write]
 
-The page has the definitions that `Means` and `Shows` of crates/acpidis/specs/Meaning.antt are made of, as they stand in
-the specs, each before what it is made of, and each type of the sources behind the definition that names it first.
+The page has the definitions that `Means` and `Shows` of crates/acpidis/specs/Meaning.antt are made of, as they stand
+in the specs, each before what it is made of, and each type of the sources behind the definition that names it first.
 Definitions that share a comment stay together, in the order of their file. One that goes form by form through a type
 that holds itself (`node_step` of `Node-F`) is a table, which has the forms of the type too. What only --any-run adds
 stands apart, cut off at the names that tests/meaning.txt has for it, and so does what a run prints. The head of the
 page is tests/meaning_words.md: its last table has just those words of the kit's library that definitions name, its
-other words stand on the page, and what it quotes in the sources. Without --write docs/meaning.md is compared with it.
-The last line is 'N passed, N failed'.
-"""
+other words stand on the page, and what it quotes in the sources. Without --write docs/meaning.md is compared."""
 
 import itertools
 import re
-import sys
 
-from tally import TOP, Tally, first_difference, tables_in
+from tally import TOP, Tally, asked, first_difference, tables_in
 
 PAGE = TOP / "docs/meaning.md"
 HEAD = TOP / "tests/meaning_words.md"
@@ -66,8 +63,7 @@ class File:
 
 
 class Definition:
-    """A paragraph of a file of specs, which may define several names. Its group is that of the comment that it stands
-    under."""
+    """A paragraph of a file of specs, which may define several names. Its comment makes it one of a group."""
 
     def __init__(self, file, section, lines, around):
         self.file, self.section, self.lines, self.around, self.code = file, section, lines, around, code_of(lines)
@@ -307,15 +303,12 @@ class Page:
         *parts, added, printed, faults = self.parts
         sums = ("All of this", [it for part in parts for it in part[1]], [it for part in parts for it in part[2]])
         return [
-            "## How much it is",
-            "",
+            "## How much it is", "",
             f"The definitions stand in {files} files. {comments} lines of comments in them, and the texts of the types, aren't counted. "
             f"The minutes are for a reader of {LINES_A_MINUTE} lines a minute, or of {ROWS_A_MINUTE} rows of tables.",
-            "",
-            "| Part | Names | Lines of definitions | Rows of tables | Lines of types | Minutes |",
+            "", "| Part | Names | Lines of definitions | Rows of tables | Lines of types | Minutes |",
             "|---|---|---|---|---|---|",
-            *[counts_of(*part) for part in (*parts, sums, added, printed, faults)],
-            "",
+            *[counts_of(*part) for part in (*parts, sums, added, printed, faults)], "",
         ]
 
 
@@ -328,8 +321,7 @@ def counts_of(title, definitions, types):
 
 
 def late_in(parts):
-    """The names that stand behind what they are made of, inside a part, but for what is of their own group, or of a section
-    that is made of theirs too."""
+    """The names behind what they are made of in a part, but for what is of their group, or a section made of theirs."""
     above = lambda it, used: any(u.section == it.section for d in used.file.definitions if d.section == used.section for u in d.uses)
     is_late = lambda it, used: used.group != it.group and (used.section == it.section or not above(it, used))
     earlier = lambda it, some: {used for used in it.uses if used in some and is_late(it, used)}
@@ -348,7 +340,7 @@ def main():
     sources, head = Sources(), HEAD.read_text()
     page = Page(sources)
     text = "\n".join([head, *page.lines, *page.counts()])
-    if "--write" in sys.argv:
+    if asked(__doc__, write=False).write:
         PAGE.write_text(text)
     there = PAGE.read_text() if PAGE.exists() else ""
     other = first_difference(there.split("\n"), text.split("\n"))
@@ -370,5 +362,4 @@ def main():
     checks.end()
 
 
-if __name__ == "__main__":
-    main()
+main()

@@ -3,12 +3,10 @@
 
     python3 tests/page.py [--sets N] [FOLDER ..]
 
-Of four sample sets, of N made-up sets, 40 if left out, of as many with code outside methods, and of each FOLDER of
-dumps: each name has the targets that the independent reading says it means, each link leads to an anchor that is there,
-each declared path has one, and its row has its marks, each line of a definition block stands in the page as it is in
-the listing, and each declaration lists the lines that use it. Then come hostile names, comparisons and texts that are
-no listing. The last line is 'N passed, N failed'.
-"""
+Of the samples of telling.py each name has the targets that the independent reading says it means, each link leads to
+an anchor that is there, each declared path has one, and its row has its marks, each line of a definition block stands
+in the page as it is in the listing, and each declaration lists the lines that use it. Then come hostile names,
+comparisons and texts that are no listing."""
 
 import ast
 import pathlib
@@ -16,16 +14,14 @@ import random
 import re
 from collections import Counter
 
-from tally import Tally, asked, first_difference, parts_in, written
+from tally import Outcome, Tally, asked, first_difference, parts_in, written
 from acpidis_tools.page import lines as lines_module
 from acpidis_tools.page import tree as tree_module
 from acpidis_tools.comparison import differences
-from acpidis_tools.errors import read_errors
+from hostile import make_page
 from made_aml import SETS, method, table
-from acpidis_tools.page.markup import page
 from page_html import Read, read_page
-from running import REFUSED, Options, Outcome, run_folder
-from acpidis_tools.page.sheet import Sheet
+from running import REFUSED, Options, run_folder
 from telling import HOSTILE_FILES, PAGES_FILES, Teller, samples
 
 ELEMENTS = set(
@@ -49,26 +45,23 @@ class Checks(Tally):
         listing, errors = self.text("text", outcome.out), self.text("errors", outcome.err)
         return self.says("status and errors of a page", ["page.py", "--errors", errors, *words, listing], 0)
 
-    def check_set(self, what: str, folder: pathlib.Path, options: Options, outcome: Outcome) -> Read:
+    def compare_set(self, what: str, folder: pathlib.Path, options: Options, outcome: Outcome) -> Read:
         self.is_same(f"{what} is taken", outcome.status != REFUSED, True)
         read = read_page(self.page(outcome))
         self.is_same(f"the names of {what}", first_difference(read.told(), Teller(folder, options).told), None)
         self.is_same(f"the uses of {what}", read.uses, read.wanted_uses())
-        self.check_frame(what, read, outcome)
-        self.check_packed(what, read, outcome)
+        self.compare_frame(what, read, outcome)
+        self.compare_packed(what, read, outcome)
         return read
 
-    def check_packed(self, what: str, read: Read, outcome: Outcome) -> None:
+    def compare_packed(self, what: str, read: Read, outcome: Outcome) -> None:
         """The page of the same listing with packed parts has the same names, lines, uses and rows."""
-        sheet = Sheet.of(outcome.out.encode(), is_packed=True)
-        sheet.faults = read_errors(outcome.err.encode(), sheet.listing) if outcome.err else {}
-        other = read_page(page(sheet))
+        other = read_page(make_page(outcome.out.encode(), outcome.err.encode(), is_packed=True))
         for part in ("names", "lines", "uses", "rows", "notes", "says"):
             self.is_same(f"the {part} of {what}, packed", getattr(other, part), getattr(read, part))
         self.is_same(f"the anchors of {what}, packed", {*other.anchors, "uses"}, {*read.anchors, "uses"})
 
-    def check_frame(self, what: str, read: Read, outcome: Outcome) -> None:
-        """Anchors, links, elements and lines."""
+    def compare_frame(self, what: str, read: Read, outcome: Outcome) -> None:
         self.is_same(f"links without an anchor in {what}", read.links - set(read.anchors), set())
         self.is_same(f"anchors twice in {what}", [one for one, count in Counter(read.anchors).items() if count > 1], [])
         rows = outcome.out.partition("\nNamespace ")[2].partition("\nDef")[0]
@@ -94,7 +87,7 @@ class Checks(Tally):
         shown = [note[5:].partition(",")[0] for note in read.notes if note.startswith("raw: ")]
         self.is_same(f"faults of {what}", shown, faults)
 
-    def check_hostile(self, read: Read) -> None:
+    def look_at_hostile(self, read: Read) -> None:
         """The hostile set's files and hardware names. That its texts come out as text is checked by its lines."""
         files = [it for it in read.cells if ".dat" in it or "onload" in it]
         wanted = [name.replace("\n", "\\x0A").replace('"', "\\x22") for name in sorted(HOSTILE_FILES)]
@@ -102,14 +95,13 @@ class Checks(Tally):
         self.is_told("what is said of numbers", read.says)
         self.is_told("the name at a fault", [note for note in read.notes if note.startswith("raw")])
 
-    def check_runs(self, read: Read) -> None:
+    def look_at_runs(self, read: Read) -> None:
         """The names and rows of the set with code outside methods that differ by the run."""
         marks = [(path, *row) for path, row in read.rows.items() if path in ("\\FOO_", "\\DEV0", "\\DEV0.LATE")]
         self.is_told("rows by the run", marks)
         told = read.told()
         self.is_told("a name that means a maybe, or what stands further up", [it[1:] for it in told if it[0] == "FOO_"])
-        far = [it[1:3] for it in told if it[0] in ("COND", "\\RP99")]
-        self.is_told("code in front of a nearer declaration", far)
+        self.is_told("code in front of a nearer declaration", [it[1:3] for it in told if it[0] in ("COND", "\\RP99")])
         notes = [note for note in read.notes if " of " in note or note.startswith("raw")]
         self.is_told("declarations and bodies of one path", notes)
 
@@ -154,9 +146,9 @@ class Checks(Tally):
         many = tuple(map(str, range(100_000)))
         self.is_same("of long texts", len(differences(many, ("x", *many[1:-1], "y"))), 2 * len(many))
 
-    def check_only(self, outcome: Outcome) -> None:
+    def check_only(self) -> None:
         """A page of a path, of a file, and of what isn't there. The levels of lines tell what stands at the path."""
-        lines = outcome.out.splitlines()
+        lines = self.hostile.out.splitlines()
         wanted: set[int] = set()
         for start, line in enumerate(lines):
             if not re.search(r"Device \(DEV0\)|Scope \(.*DEV0\)", line):
@@ -167,64 +159,59 @@ class Checks(Tally):
             for above in range(0, level, 2):
                 head = max(at for at in range(start) if re.match(rf" {{{above}}}\w.*{{$", lines[at]))
                 wanted |= {head + 1, lines.index(" " * above + "}", end) + 1}
-        listing = self.text("whole", outcome.out)
+        listing = self.text("whole", self.hostile.out)
         for what in ("\\_SB_.PCI0.DEV0", "ssdt1 \\x22 onload=alert(1) x='&lt;"):
             run = self.run("page.py", "--only", what, listing)
-            read = read_page(run.stdout)
+            read = read_page(run.out)
             if what[0] == "\\":
                 self.is_same(f"the lines of {what}", set(read.lines), wanted)
             self.is_same(f"links without an anchor at {what}", read.links - set(read.anchors), set())
             self.is_same(f"lines of {what}", [text for line, text in read.lines.items() if text != lines[line - 1]], [])
         run = self.run("page.py", "--only", "\\NONE", listing)
-        self.is_same("only what isn't there", (run.returncode, run.stdout, run.stderr.count("\n")), (1, "", 1))
+        self.is_same("only what isn't there", (run.status, run.out, run.err.count("\n")), (1, "", 1))
 
-    def check_names(self, outcome: Outcome) -> None:
+    def check_names(self) -> None:
         """What stands on top: a name that is given, or that of the file or of its folder."""
-        text = outcome.out.replace('"EXAMPLE "', '"EX\\x00\\x00\\x00\\x00\\x00\\x00"')
+        text = self.hostile.out.replace('"EXAMPLE "', '"EX\\x00\\x00\\x00\\x00\\x00\\x00"')
         (self.room / "host7").mkdir()
         for words, title in (
             ([self.text("a&b", text)], "a&amp;b: TEST EX"), ([self.text("host7/text", text)], "host7: TEST EX"),
             (["--name", "<i>", self.text("a", text)], "&lt;i&gt;: TEST EX"),
         ):
-            found = re.findall("<title>(.*)</title>", self.run("page.py", *words).stdout)
+            found = re.findall("<title>(.*)</title>", self.run("page.py", *words).out)
             self.is_same(f"the title of {words}", found, [title])
 
-    def check_refusals(self, outcome: Outcome) -> None:
+    def check_refusals(self) -> None:
         """Texts that are no listing: one line, and status 1."""
-        lines = outcome.out.splitlines(keepends=True)
+        lines = self.hostile.out.splitlines(keepends=True)
         texts = {
             "an empty text": "", "another tool's": 'DefinitionBlock ("", "DSDT", 2, "A", "B", 1)\n{\n}\n',
-            "a check": 'Check "a" Bytes 1\n', "a text": "a listing\n", "a line that is cut": outcome.out[:-3],
-            "no ASCII": outcome.out.replace("Return", "R\xE9turn"), "21 MB": outcome.out + "  \n" * 7_000_000,
-            "no opcode": outcome.out.replace("  Return", "  Reutrn"),
-            "a line less": outcome.out.replace("    Device (PCI0) {\n", ""),
+            "a check": 'Check "a" Bytes 1\n', "a text": "a listing\n", "a line that is cut": self.hostile.out[:-3],
+            "no ASCII": self.hostile.out.replace("Return", "R\xE9turn"), "21 MB": self.hostile.out + "  \n" * 7_000_000,
+            "no opcode": self.hostile.out.replace("  Return", "  Reutrn"),
+            "a line less": self.hostile.out.replace("    Device (PCI0) {\n", ""),
             **{f"the first {count} lines": "".join(lines[:count]) for count in range(1, len(lines), 7)},
         }
         for what, text in texts.items():
             run = self.run("page.py", self.text("refused", text))
-            got = run.returncode, run.stdout, run.stderr.count("\n"), run.stderr.startswith("acpidis-page: ")
-            self.is_same(f"{what}, {run.stderr}", got, (1, "", 1, True))
+            got = run.status, run.out, run.err.count("\n"), run.err.startswith("acpidis-page: ")
+            self.is_same(f"{what}, {run.err}", got, (1, "", 1, True))
         errors = self.text("errors", "acpidis: body \\NONE: UnknownName at 1\n")
-        for status, words in ((1, ["--errors", errors, self.text("whole", outcome.out)]), (2, [self.room / "none"])):
+        for status, words in ((1, ["--errors", errors, self.text("whole", "".join(lines))]), (2, [self.room / "none"])):
             run = self.run("page.py", *words)
-            self.is_same("status of other faults", (run.returncode, run.stderr.count("\n")), (status, 1))
+            self.is_same("status of other faults", (run.status, run.err.count("\n")), (status, 1))
 
 
 def main() -> None:
     words = asked(__doc__, sets=40, folders=())
     with Checks() as checks:
-        more = {"the hostile set": checks.check_hostile, "the set of runs": checks.check_runs}
+        more = {"the hostile set": checks.look_at_hostile, "the set of runs": checks.look_at_runs}
         for what, *sample in samples(checks.room, words.folders, words.sets):
-            read = checks.check_set(what, *sample)
+            read = checks.compare_set(what, *sample)
             if what in more:
                 more[what](read)
-        checks.check_comparison()
-        checks.check_comparison_lines()
-        checks.check_differences()
-        outcome = run_folder(checks.room / "hostile", Options())
-        for check in (checks.check_only, checks.check_names, checks.check_refusals):
-            check(outcome)
+        checks.hostile = run_folder(checks.room / "hostile", Options())
+        checks.check_all()
 
 
-if __name__ == "__main__":
-    main()
+main()

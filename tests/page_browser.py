@@ -3,11 +3,10 @@
 
     python3 tests/page_browser.py [--picture PICTURE] [--errors ERRORS] [LISTING]
 
-It loads a page, finds paths in all forms, follows names, opens uses, looks at the bar after jumps, at narrow windows and by
-keys, and takes a picture. The page may ask for nothing but itself, and keep no cookie. With a LISTING that page alone is
-looked at; else that of a made-up set, and then come a comparison, and pages of 4 and 16 MB of text, which have to open in 2
-and in 5 seconds. It is no part of ./test. The last line is 'N passed, N failed'.
-"""
+It loads a page, finds paths in all forms, follows names, opens uses, looks at the bar after jumps, at narrow windows
+and by keys, and takes a picture. The page may ask for nothing but itself, and keep no cookie. With a LISTING that page
+alone is looked at; else that of a made-up set, and then come a comparison, and pages of 4 and 16 MB of text, which
+have to open in 2 and in 5 seconds. It is no part of ./test."""
 
 import argparse
 import base64
@@ -18,7 +17,6 @@ import os
 import pathlib
 import re
 import shutil
-import socket
 import subprocess
 import sys
 import time
@@ -32,54 +30,40 @@ LONGEST_WAIT = 60
 MOST_SECONDS_TO_OPEN = 2
 # The shortest counts, since others may work on the machine.
 OPENINGS = 3
-# What chromium reads from and writes to is by its own rule these two.
-ITS_ENDS = 3, 4
+# What chromium reads from and writes to is by its own rule 3 and 4.
+PIPED = 'exec "$0" "$@" 3<&0 4>&1 </dev/null >/dev/null 2>&1'
 KEYS = {"/": 191, "Enter": 13, "Escape": 27, "ArrowDown": 40, "ArrowLeft": 37, "ArrowRight": 39, "ArrowUp": 38, "Tab": 9}
 MOST_JUMPS = 60
 
 
 class Browser:
-    """A headless chromium with one tab, which is spoken to through a pair of sockets."""
+    """A headless chromium with one tab, which is spoken to through pipes."""
 
     def __init__(self, room: str):
-        self.end, its_end = socket.socketpair()
         words = ["chromium", "--headless", "--disable-gpu", "--hide-scrollbars", "--remote-debugging-pipe"]
         words += [f"--user-data-dir={room}", f"--window-size={WIDTH},{HEIGHT}"]
         words += ["--no-sandbox"] if os.getuid() == 0 else []
-
-        def take_end() -> None:
-            number = os.dup(its_end.fileno())
-            for end in ITS_ENDS:
-                os.dup2(number, end)
-
-        how = {"preexec_fn": take_end, "pass_fds": ITS_ENDS}
-        self.child = subprocess.Popen(words, stdout=subprocess.DEVNULL, stderr=subprocess.DEVNULL, **how)
-        its_end.close()
-        self.rest, self.calls, self.session, self.events = b"", 0, None, []
+        pipes = {"stdin": subprocess.PIPE, "stdout": subprocess.PIPE, "bufsize": 0}
+        self.child = subprocess.Popen(["sh", "-c", PIPED, *words], **pipes)
+        self.rest, self.calls, self.session, self.events = b"", 0, {}, []
         target = self.call("Target.createTarget", url="about:blank")["targetId"]
-        self.session = self.call("Target.attachToTarget", targetId=target, flatten=True)["sessionId"]
+        self.session = {"sessionId": self.call("Target.attachToTarget", targetId=target, flatten=True)["sessionId"]}
         for domain in ("Page", "Runtime", "Network", "Log"):
             self.call(f"{domain}.enable")
 
     def receive(self) -> dict:
         while b"\0" not in self.rest:
-            self.rest += self.end.recv(1 << 16) or sys.exit("chromium ended")
+            self.rest += self.child.stdout.read(1 << 16) or sys.exit("chromium ended")
         message, _, self.rest = self.rest.partition(b"\0")
         return json.loads(message)
 
     def call(self, method: str, **params: object) -> dict:
         self.calls += 1
-        message = {"id": self.calls, "method": method, "params": params}
-        if self.session:
-            message["sessionId"] = self.session
-        self.end.sendall(json.dumps(message).encode() + b"\0")
-        while True:
-            answer = self.receive()
-            if answer.get("id") == self.calls:
-                if "error" in answer:
-                    sys.exit(f"{method}: {answer['error']}")
-                return answer["result"]
+        message = {"id": self.calls, "method": method, "params": params, **self.session}
+        self.child.stdin.write(json.dumps(message).encode() + b"\0")
+        while (answer := self.receive()).get("id") != self.calls:
             self.events.append(answer)
+        return answer["result"] if "error" not in answer else sys.exit(f"{method}: {answer['error']}")
 
     def value(self, expression: str) -> object:
         answer = self.call("Runtime.evaluate", expression=expression, awaitPromise=True, returnByValue=True)
@@ -128,9 +112,8 @@ class Browser:
 
     def press(self, key: str) -> None:
         text = {"text": key} if len(key) == 1 else {"text": "\r"} if key == "Enter" else {}
-        for kind in ("keyDown", "keyUp"):
-            params = text if kind == "keyDown" else {}
-            self.call("Input.dispatchKeyEvent", type=kind, key=key, windowsVirtualKeyCode=KEYS.get(key, 0), **params)
+        for kind, more in (("keyDown", text), ("keyUp", {})):
+            self.call("Input.dispatchKeyEvent", type=kind, key=key, windowsVirtualKeyCode=KEYS.get(key, 0), **more)
         self.settle()
 
     def type(self, text: str) -> None:
@@ -156,7 +139,6 @@ class Browser:
         file.write_bytes(base64.b64decode(self.call("Page.captureScreenshot", format="png")["data"]))
 
     def close(self) -> None:
-        self.end.close()
         self.child.terminate()
         self.child.wait(LONGEST_WAIT)
 
@@ -201,14 +183,12 @@ class Looks(Tally):
                 self.is_so(re.sub(r"\{(.*?)\}", as_shown, what), holds)
             elif word == "do":
                 browser.value(f"(async () => {{ {rest} }})()")
-            elif word in ("press", "click"):
-                getattr(browser, word)(rest)
             elif word == "picture":
                 browser.picture(self.picture)
             elif word == "places":
                 self.look_at_places()
             else:
-                {"type": browser.type, "jump": browser.jump, "width": browser.width}[word](browser.value(rest))
+                getattr(browser, word)(rest if word in ("press", "click") else browser.value(rest))
         complaints = [*browser.events_of("Log.entryAdded"), *browser.events_of("Runtime.exceptionThrown")]
         self.is_so(f"the browser's log is empty, not {complaints}", not complaints)
 
@@ -237,7 +217,7 @@ class Looks(Tally):
 
     def page_of(self, name: str, text: str, *words: object) -> pathlib.Path:
         made = self.run("page.py", *words, self.text(name, text), stderr=None, check=True)
-        return self.text(f"{name}.html", made.stdout)
+        return self.text(f"{name}.html", made.out)
 
     def look_at_all(self, words: argparse.Namespace) -> None:
         self.picture = words.picture or self.room / "page.png"
@@ -252,8 +232,7 @@ class Looks(Tally):
         other = outcome.out
         for word, changed in OTHERS.items():
             other = other.replace(word, changed, 1)
-        compared = self.page_of("compared", outcome.out, "--compare", self.text("other", other))
-        self.browser.open(compared.as_uri())
+        self.browser.open(self.page_of("compared", outcome.out, "--compare", self.text("other", other)).as_uri())
         self.take_steps("comparison")
         for size, seconds in LARGE.items():
             self.look("large", seconds, self.page_of(f"{size} MB", listing(size * 1_000_000)))
@@ -268,5 +247,4 @@ def main() -> None:
         checks.look_at_all(words)
 
 
-if __name__ == "__main__":
-    main()
+main()

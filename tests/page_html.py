@@ -11,14 +11,10 @@ from telling import Path, Told
 VOID = ("meta", "input")
 
 
-def is_note(element: Element) -> bool:
-    return element.get("class") == "note"
-
-
 def text_of(element: Element) -> str:
     """Its text, without that of notes and of what is said of numbers."""
-    shown = (("" if is_note(it) or it.tag == "small" else text_of(it)) + (it.tail or "") for it in element)
-    return (element.text or "") + "".join(shown)
+    is_left_out = lambda it: it.get("class") == "note" or it.tag == "small"
+    return (element.text or "") + "".join(("" if is_left_out(it) else text_of(it)) + (it.tail or "") for it in element)
 
 
 class Tree(HTMLParser):
@@ -69,7 +65,7 @@ class Read:
         number = int(line.get("id"))
         self.lines[number] = text_of(line)
         for it in line.iter():
-            if is_note(it):
+            if it.get("class") == "note":
                 self.notes.append(text_of(it))
             elif it.tag in ("a", "dfn", "u"):
                 self.names.append((it.tag, it.attrib, text_of(it), number))

@@ -6,13 +6,11 @@ there.
 
 A block that begins with ```console has commands behind `$ `, more lines of theirs behind `> `, and below what they
 print. They run in a folder with the sets of examples/sets, of which `mine` has the first block of docs/listing.md as
-its text, and with `examples`; `./acpidis` is the launcher. Then they run once more as
-the commands of an installed program, `acpidis-page` for `examples/page.py`. README and docs have no more pages and
-words than they may. What pages quote, link to or name stands there: sources, headings, contracts, clauses, wrong
-bodies. The manual page is looked through by mandoc and groff, each where it is installed; options and words are
-compared with the program's and the sources'. Last, the scripts that the pages speak of are tried, but with
---no-scripts. The last line is 'N passed, N failed'.
-"""
+its text, and with `examples`; `./acpidis` is the launcher. Then they run once more as the commands of an installed
+program, `acpidis-page` for `examples/page.py`. README and docs have no more pages and words than they may. What pages
+quote, link to or name stands there: sources, headings, contracts, clauses, wrong bodies. The manual page is looked
+through by mandoc and groff, each where it is installed; options and words are compared with the program's and the
+sources'. Last, the scripts that the pages speak of are tried, but with --no-scripts."""
 
 import itertools
 import os
@@ -20,10 +18,8 @@ import pathlib
 import re
 import shutil
 import subprocess
-import sys
-import tempfile
 
-from tally import TOP, Tally, executable
+from tally import TOP, Tally, asked, ended, executable, new_room
 
 LISTING = "docs/listing.md"
 PAGES = ["listing", "tables", "refusals", "any_run", "changing", "many", "facts"]
@@ -46,15 +42,13 @@ def make_room(room, is_installed):
     else:
         (room / "examples").symlink_to(TOP / "examples")
         commands["acpidis"] = f"#!/bin/sh\nexec '{TOP}/acpidis' \"$@\"\n"
-    sets = room / "share/acpidis/sets" if is_installed else TOP / "examples/sets"
-    shutil.copytree(sets, room, dirs_exist_ok=True)
+    shutil.copytree(room / "share/acpidis/sets" if is_installed else TOP / "examples/sets", room, dirs_exist_ok=True)
     for name, text in commands.items():
         executable(room / name, text)
 
 
-def printed_by(words, **more):
-    how = {"stdout": subprocess.PIPE, "stderr": subprocess.STDOUT, "text": True, "check": False}
-    return subprocess.run(words, **{**how, **more}).stdout
+def printed_by(*words, **more):
+    return ended(*words, **{"stderr": subprocess.STDOUT, **more}).out
 
 
 def blocks_of(page, kind):
@@ -117,21 +111,20 @@ def section(manual, name):
 
 
 class Checks(Tally):
-    def check_commands(self, page, is_installed):
+    def try_commands(self, page, is_installed):
         commands = list(commands_of(page))
         self.is_so(f"{page}: it has no command", commands)
-        with tempfile.TemporaryDirectory() as room:
-            make_room(pathlib.Path(room), is_installed)
+        with new_room() as room:
+            make_room(room, is_installed)
             environment = {**os.environ, "PATH": f"{room}/bin:{os.environ['PATH']}"}
             for command, wanted in commands:
                 if is_installed:
                     command = re.sub(r"(?:python3 )?\bexamples/(\w+)\.(?:py|sh)\b", r"acpidis-\1", command)
                     command = command.replace("./acpidis", "acpidis")
-                printed = printed_by(["sh", "-c", command], cwd=room, env=environment)
+                printed = printed_by("sh", "-c", command, cwd=room, env=environment)
                 self.is_so(f"{page}: {command}\nprinted\n{printed}not\n{wanted}", printed == wanted)
 
     def check_readme(self):
-        """README's length, and that each block which it quotes from a source stands there."""
         text = (TOP / README).read_text()
         quoted = re.findall(r"\(`(crates/[^`]*)`\):\n\n```[a-z]+\n(.*?)^```$", text, re.MULTILINE | re.DOTALL)
         for source, block in quoted:
@@ -192,7 +185,7 @@ class Checks(Tally):
     def check_manual(self):
         for lint in LINTS:
             if shutil.which(lint[0]):
-                said = printed_by([*lint, TOP / MANUAL])
+                said = printed_by(*lint, TOP / MANUAL)
                 self.is_so(f"{MANUAL}: {lint[0]}\n{said}", not said)
 
     def check_words(self):
@@ -200,7 +193,7 @@ class Checks(Tally):
         readme = (TOP / README).read_text().partition("\n## Options")[2].partition("\n## ")[0]
         manual = (TOP / MANUAL).read_text().replace("\\-", "-")
         headings = "\n".join(re.findall(r"^(?:\.BR? |acpidis: )(.*)$", section(manual, "DIAGNOSTICS"), re.MULTILINE))
-        options = options_in(printed_by([TOP / "acpidis", "--any-sum", "--help"]))
+        options = options_in(printed_by(TOP / "acpidis", "--any-sum", "--help"))
         # The words of standard error: the first of each message in the sources, where it is one
         form = r'(?:#\[error\("|"acpidis: |Fault::\w+(?:\(_\))? => f\.write_str\(")([^"{]+)'
         messages = [it for source in TOP.glob("crates/*/src/**/*.rt") for it in re.findall(form, source.read_text())]
@@ -214,10 +207,10 @@ class Checks(Tally):
         ]:
             self.is_so(f"{name}: {sorted(got ^ wanted)}", got == wanted)
 
-    def check_scripts(self):
+    def try_scripts(self):
         """Each check of a script, by its last line."""
         for script in SCRIPTS:
-            *shown, last = printed_by([TOP / script], stderr=None).splitlines()
+            *shown, last = printed_by(TOP / script, stderr=None).splitlines()
             print("".join(f"{line}\n" for line in shown), end="")
             passed, failed = map(int, re.fullmatch(r"(\d+) passed, (\d+) failed", last).groups())
             self.passed += passed
@@ -225,18 +218,13 @@ class Checks(Tally):
 
 
 def main():
-    checks = Checks()
+    words, checks = asked(__doc__, no_scripts=False), Checks()
     for name, is_installed in itertools.product(PAGES, (False, True)):
-        checks.check_commands(f"docs/{name}.md", is_installed)
-    for check in (
-        checks.check_readme, checks.check_links, checks.check_proofs, checks.check_crates, checks.check_names,
-        checks.check_goals, checks.check_manual, checks.check_words,
-    ):  # fmt: skip
-        check()
-    if "--no-scripts" not in sys.argv:
-        checks.check_scripts()
+        checks.try_commands(f"docs/{name}.md", is_installed)
+    checks.check_all()
+    if not words.no_scripts:
+        checks.try_scripts()
     checks.end()
 
 
-if __name__ == "__main__":
-    main()
+main()

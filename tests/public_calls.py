@@ -1,15 +1,12 @@
 #!/usr/bin/env python3
 """Compares the public functions of the crates with the table of those whose whole answers ./test compares.
 
-    python3 tests/public_calls.py
-
-A contract says nothing of a body that always wants memory, or never returns, so each public function has to be called once
-with ample memory, and what it answers compared. tests/public_calls.txt says by which part of ./test. It fails where a public
-function stands in no part, where one is named that there isn't, and where the program or the tests of a part don't call one
-that is named there, by themselves or through other functions. What operators, `?` and formatting call by themselves has no
-name by which a call could be found, and functions that take and answer nothing, which are laws, have no answer: they aren't
-looked at. The last line is 'N passed, N failed'.
-"""
+A contract says nothing of a body that always wants memory, or never returns, so each public function has to be called
+once with ample memory, and what it answers compared. tests/public_calls.txt says by which part of ./test. It fails
+where a public function stands in no part, where one is named that there isn't, and where the program or the tests of a
+part don't call one that is named there, by themselves or through other functions. What operators, `?` and formatting
+call by themselves has no name by which a call could be found, and functions that take and answer nothing, which are
+laws, have no answer: they aren't looked at."""
 
 import collections
 import re
@@ -26,14 +23,11 @@ NOT_SURFACE = {*PARTS.values(), "pool_bench", "call_list"}
 UNNAMED = {"From", "Display", "PartialEq", "PartialOrd", "Ord", "Drop"}
 CALL = re.compile(r"(?:(\.)|\b(\w+)(?:::<[^()]*>)?::)?\b([a-z_]\w*)\b")
 
-
-# What is written of a function: its crate, the type that it is a method of, its name, the trait that has it, whether it is
-# public, and its text
+# A function: its crate, the type that it is a method of, its name, its trait, whether it is public, and its text
 Function = collections.namedtuple("Function", "crate type name trait public text")
 
 
 def functions_in(crate):
-    """The functions of a crate that have a body."""
     for file, text in sources_in(str(TOP / "crates" / crate)).items():
         for it in functions_of(file, text):
             trait = (it.trait or "").partition("<")[0].rpartition("::")[2]
@@ -88,13 +82,6 @@ def called_from(functions, crate, below):
     return {title(it) for it in reached}
 
 
-def table():
-    """The functions that the table has, each with its part."""
-    for part, lines in re.findall(r"^\[(\w+)\].*\n((?:(?!\[).*\n)*)", TABLE.read_text(), re.M):
-        for crate, names in re.findall(r"^(\w+): (.*)", lines, re.M):
-            yield from ((part, f"{crate}::{name}") for name in names.split())
-
-
 def main():
     # The crates of the repository that each stands on, itself among them
     names = re.findall(r"^(\w+).*:", (TOP / "crates.txt").read_text(), re.M)
@@ -102,7 +89,10 @@ def main():
     functions = [it for crate in below for it in functions_in(crate)]
     public = sorted({title(it) for it in surface(functions, below)})
     called = {part: called_from(functions, crate, below) for part, crate in PARTS.items()}
-    told, checks = list(table()), Tally()
+    # The functions that the table has, each with its part
+    rows = re.findall(r"^\[(\w+)\].*\n((?:(?!\[).*\n)*)", TABLE.read_text(), re.M)
+    crates = [(part, *row) for part, lines in rows for row in re.findall(r"^(\w+): (.*)", lines, re.M)]
+    told, checks = [(part, f"{crate}::{name}") for part, crate, names in crates for name in names.split()], Tally()
     for name in public:
         is_told = any(name == it for _, it in told)
         checks.is_so(f"{name}: no part of ./test is named that compares what it answers", is_told)
@@ -112,5 +102,4 @@ def main():
     checks.end()
 
 
-if __name__ == "__main__":
-    main()
+main()

@@ -1,25 +1,22 @@
 #!/usr/bin/env python3
-"""Tries what is answered where a growth or the start of a thread is refused: the whole answer, or the want of memory or
-of a thread.
+"""Tries what is answered where a growth or the start of a thread is refused: the whole answer, or the want of memory
+or of a thread.
 
     python3 tests/refusals.py [program]
 
-The tests of library_tests in `memory` run with each growth refused in turn, by itself and with all later ones, those in
-`starts` with each start. So does the program, over a set whose first method can't be read, over one with code outside
-methods, and over one of many rows. Each thread that was started has to be joined, and a want is an answer only where
-something was refused. With the word program only the program runs so, as in ./test, in some seconds; the tests are
-proved and built first. It needs a C compiler, for refusals.c. The last line is 'N passed, N failed'.
-"""
+The tests of library_tests in `memory` run with each growth refused in turn, by itself and with all later ones, those
+in `starts` with each start. So does the program, over a set whose first method can't be read, over one with code
+outside methods, and over one of many rows. Each thread that was started has to be joined, and a want is an answer only
+where something was refused. With the word program only the program runs so, as in ./test, in some seconds; the tests
+are proved and built first. It needs a C compiler, for refusals.c."""
 
-import concurrent.futures
 import itertools
-import os
 import re
 import sys
 import tempfile
 
-from tally import PROGRAM, TOP, Tally, shim_in, written
-from limits import WANTS, ended
+from tally import PROGRAM, TOP, Tally, ended, needed, shim_in, side_by_side, written
+from limits import WANTS
 from made_aml import SETS, method, segment, tables
 from running import DONE, RAW
 
@@ -39,8 +36,7 @@ RUNS = (
 
 
 def is_right(outcome, whole, how, is_refused):
-    """Whether all came, or a want where something was refused. Want of memory may refuse a start too, but a refused
-    start is no want of memory."""
+    """Whether all came, or a want where something was refused. A refused start is no want of memory."""
     if outcome.status == whole.status:
         return whole.status == RAW and outcome == whole
     return is_refused and outcome in (WANTS[1:] if how == START else WANTS)
@@ -57,8 +53,7 @@ def sweep(room, shim, how, command):
     """Refuses the calls of a command one after the other: how many of its answers are right, what is said, and whether
     all are. The last run is the first in which there is no call to refuse: one that is refused counts."""
     whole, shown = ended(*command, cwd=room), " ".join(map(str, command)).removeprefix(f"{TOP}/")
-    is_late = command[-1] == "rows" and how != START
-    first = counted(room, shim, command)[1][0] - LAST if is_late else 1
+    first = counted(room, shim, command)[1][0] - LAST if command[-1] == "rows" and how != START else 1
     for number in itertools.count(first):
         outcome, counts = counted(room, shim, command, f"{how}={number}", "REFUSED=0")
         growths, starts, refused, joins, *_ = counts or [0, 0, 0, -1]
@@ -81,28 +76,21 @@ def sweeps(is_program):
         yield from ((how, [TESTS, name]) for name in re.findall(rf"^(tests::{kind}::.*): test$", names, re.M))
 
 
-def built(*words, **more):
-    """Runs a command without which nothing can be tried."""
-    ran = ended(*words, **more)
-    if ran.status:
-        sys.exit(ran.out + ran.err)
-
-
 def main():
     part = sys.argv[1:] == ["program"]
     if sys.argv[1:] and not part:
         sys.exit(__doc__)
-    with Tally(stops=True) as checks, concurrent.futures.ThreadPoolExecutor(len(os.sched_getaffinity(0))) as pool:
+    with Tally(stops=True) as checks:
         shim = shim_in(checks.room)
         if not shim:
             checks.is_so("there is no C compiler, so that nothing can be refused, and nothing is tried", False)
         if not part:
-            built("rt", "test", "--", "memory", cwd=CRATE)
-        built(TOP / "acpidis", "demo")
+            needed("rt", "test", "--", "memory", cwd=CRATE)
+        needed(TOP / "acpidis", "demo")
         for folder, files in FOLDERS.items():
             written(checks.room / folder, files)
         (checks.room / "counts").write_text("\\CCCC 2\n")
-        for passed, said, is_whole in pool.map(lambda it: sweep(checks.room, shim, *it), sweeps(part)):
+        for passed, said, is_whole in side_by_side(lambda it: sweep(checks.room, shim, *it), sweeps(part)):
             print(said, flush=True)
             checks.passed += passed
             checks.failed += not is_whole

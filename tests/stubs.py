@@ -7,11 +7,8 @@ Each runs in a copy of the repository in which what it tests is a stub: a progra
 prints nothing, and one that prints the same text always, all of which know their version and the demo, so that no
 script ends before it begins. Each script has to end with another status than 0, and where it prints a last line of
 counts, some have failed. The other trials are a machine without a C compiler, empty files, a wrong independent
-reading, and a `rt` that proves nothing. With words only the trials with one of them in their names are made. The last
-line is 'N passed, N failed'.
-"""
+reading, and a `rt` that proves nothing. With words only the trials with one of them in their names are made."""
 
-import concurrent.futures
 import itertools
 import os
 import pathlib
@@ -21,7 +18,7 @@ import subprocess
 import sys
 from collections import namedtuple
 
-from tally import TOP, Tally, executable, tables_in
+from tally import TOP, Tally, ended, executable, side_by_side, tables_in
 
 LEFT_OUT = shutil.ignore_patterns(".git", "out", "__pycache__", "must-fail", "proofs", "wrong-bodies.edits")
 # The program, and its copy by which the scripts run it
@@ -35,7 +32,6 @@ STUBS = {"refuses": REFUSES, "prints nothing": EMPTY, "prints one text": ONE_TEX
 COMPILERS = {"cc", "gcc", "clang", "c89", "c99"}
 # The scripts that take the program; others, each with a file in which something is wrong; what is told of empty pages
 OF_PROGRAM, WRONG, EMPTY_PAGES = tables_in("stubs.txt")
-
 
 # A script with its words, what is put into the copy in which it runs, the PATH there, and what it has to say
 Trial = namedtuple("Trial", "name words files path said", defaults=[{}, None, []])
@@ -76,7 +72,6 @@ def without_compilers(room):
 
 
 def copy_with(files, folder):
-    """A copy of the repository with these files in it."""
     shutil.copytree(TOP, folder, ignore=LEFT_OUT, symlinks=True)
     for name, text in files.items():
         executable(folder / name, text)
@@ -89,30 +84,26 @@ def fault_of(trial, folder):
     environment = {**os.environ, "PATH": trial.path or os.environ["PATH"]}
     for variable in ("ACPIDIS", "CC"):
         environment.pop(variable, None)
-    how = {"stdin": subprocess.DEVNULL, "capture_output": True, "text": True, "errors": "replace", "check": False}
     try:
-        ran = subprocess.run(words, cwd=folder, env=environment, timeout=LONGEST, **how)
+        ran = ended(*words, cwd=folder, env=environment, timeout=LONGEST)
     except subprocess.TimeoutExpired:
         return f"no end after {LONGEST} seconds"
-    last = ran.stdout.rstrip("\n").rpartition("\n")[2]
-    counts = re.fullmatch(r"\d+ passed, (\d+) failed", last)
-    missing = [it for it in trial.said if it not in ran.stdout]
-    if ran.returncode == 0 or missing:
-        return f"status {ran.returncode}, and last the line {last!r}" + "".join(f", without {it!r}" for it in missing)
-    return f"status {ran.returncode}, but last the line {last!r}" if counts and counts[1] == "0" else None
+    last = ran.out.rstrip("\n").rpartition("\n")[2]
+    missing = [it for it in trial.said if it not in ran.out]
+    if ran.status == 0 or missing:
+        return f"status {ran.status}, and last the line {last!r}" + "".join(f", without {it!r}" for it in missing)
+    return f"status {ran.status}, but last the line {last!r}" if re.fullmatch(r"\d+ passed, 0 failed", last) else None
 
 
 def main():
     words = sys.argv[1:]
-    with Tally() as checks, concurrent.futures.ThreadPoolExecutor(len(os.sched_getaffinity(0))) as pool:
+    with Tally() as checks:
         room = checks.room
         made = [it for it in trials(room) if not words or any(word in it.name for word in words)]
         kinds = {str(it.files): it.files for it in made}
         copies = {kind: copy_with(files, room / str(number)) for number, (kind, files) in enumerate(kinds.items())}
-        faults = pool.map(fault_of, made, (copies[str(it.files)] for it in made))
-        for trial, fault in zip(made, faults):
+        for trial, fault in zip(made, side_by_side(fault_of, made, (copies[str(it.files)] for it in made))):
             checks.is_so(f"{trial.name}: {fault}", not fault)
 
 
-if __name__ == "__main__":
-    main()
+main()

@@ -60,18 +60,23 @@ is 'a cut line is made anew' "$(lines fewer)" "$(cat wanted)"
 is 'a wrong option' "$? $(cat none)" '2 '
 ACPIDIS=/none/acpidis "$survey" sets none >/dev/null 2>&1
 is 'no program' "$? $(cat none)" '1 '
-"$survey" nowhere none >/dev/null 2>&1
-is 'no sets' "$? $(cat none)" '1 '
-"$survey" sets >/dev/null 2>&1
-is 'too few words' "$?" 1
 mkdir nothing
-is 'results that are no file' "$(timeout 5 "$survey" sets /dev/full 2>&1; echo "$?")" $'acpidis-survey: /dev/full is no regular file\n1'
-for option in --help --version; do
-    is "$option" "$("$survey" sets none --any-sum $option 2>&1; echo "$?"; cat none)" $'acpidis-survey: --help and --version check no set\n1'
-done
-is 'an empty folder' "$("$survey" nothing none 2>&1; echo "$?")" $'acpidis-survey: no folder with tables is below nothing\n1'
-is 'a set itself' "$("$survey" sets/text none 2>&1; echo "$?")" \
-    $'acpidis-survey: no folder with tables is below sets/text\n1'
+mkfifo pipe
+# shellcheck disable=SC2086
+while IFS='|' read -r name text words; do
+    is "$name" "$(timeout 9 "$survey" $words 2>&1; echo "$?"; cat none)" "$text"$'\n1'
+done <<'T'
+no sets|acpidis-survey: no folder nowhere|nowhere none
+too few words|acpidis-survey: usage: survey.sh [-j JOBS] [-s SECONDS] [-m MEGABYTES] SETS RESULTS [OPTION..]|sets
+results that are no file|acpidis-survey: /dev/full is no regular file|sets /dev/full
+--help|acpidis-survey: --help and --version check no set|sets none --any-sum --help
+--version|acpidis-survey: --help and --version check no set|sets none --any-sum --version
+an empty folder|acpidis-survey: no folder with tables is below nothing|nothing none
+a set itself|acpidis-survey: no folder with tables is below sets/text|sets/text none
+no number of seconds|acpidis-survey: -s takes a number of seconds, not x|-s x sets none
+no number of megabytes|acpidis-survey: -m takes a number of megabytes, not 0|-m 0 sets none
+counts from a pipe|acpidis-survey: pipe is a pipe, which may never end|sets none --externals pipe
+T
 
 # options are the program's
 mkdir summed
@@ -125,11 +130,6 @@ exit 1
 S
 ACPIDIS=$work/bound.sh "$survey" -s 0.5 -m 100 -j 3 some bound 2>/dev/null
 is 'bounds' "$(cut -f 1-3 bound | sort | head -n 1)" $'1\t1\ttable "dsdt.dat": ModuleCode at 102400 (--any-run was cut off)'
-is 'no number of seconds' "$("$survey" -s x some bound 2>&1; echo "$?")" $'acpidis-survey: -s takes a number of seconds, not x\n1'
-mkfifo pipe
-is 'counts from a pipe' "$(timeout 9 "$survey" some bound --externals pipe 2>&1; echo "$?")" \
-    $'acpidis-survey: pipe is a pipe, which may never end\n1'
-is 'no number of megabytes' "$("$survey" -m 0 some bound 2>&1; echo "$?")" $'acpidis-survey: -m takes a number of megabytes, not 0\n1'
 
 # killed in the middle, again and again, with all that it started: each set gets just one line in the end
 mkdir many

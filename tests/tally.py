@@ -9,16 +9,14 @@ import math
 import os
 import pathlib
 import re
-import resource
 import shutil
-import subprocess
 import sys
-import tempfile
 import types
 from collections.abc import Callable
 
 sys.path.insert(1, str(pathlib.Path(__file__).resolve().parent / "oracle"))
-from trying import PROGRAM, TOP, asked, end, first_difference, run, written  # noqa: E402, F401
+from trying import PROGRAM, TOP, Outcome, asked, end, ended, first_difference, new_room  # noqa: E402, F401
+from trying import run, side_by_side, written  # noqa: E402, F401
 
 DEMO = TOP / "crates/acpidis_program/data/demo"
 
@@ -28,21 +26,26 @@ class Stopped(Exception):
 
 
 class Tally:
-    """The checks of a test, which may stop at the first that fails. In a `with` they have a room for files of theirs,
-    and end with it."""
+    """The checks of a test, which may stop at the first that fails. In a `with` they have a room, and end with it."""
 
     def __init__(self, stops: bool = False) -> None:
         self.stops, self.passed, self.failed = stops, 0, 0
 
     def __enter__(self) -> Tally:
-        self.place = tempfile.TemporaryDirectory(ignore_cleanup_errors=True)
-        self.room = pathlib.Path(self.place.name)
+        self.place = new_room()
+        self.room = self.place.__enter__()
         return self
 
     def __exit__(self, kind: type | None, *_: object) -> None:
-        self.place.cleanup()
+        self.place.__exit__(None, None, None)
         if kind in (None, Stopped):
             self.end()
+
+    def check_all(self) -> None:
+        """Makes the checks of the class, its methods `check_..`, in the order in which they stand."""
+        for name in vars(type(self)):
+            if name.startswith("check_"):
+                getattr(self, name)()
 
     def is_same(self, what: str, got: object, wanted: object) -> None:
         self.is_so(f"{what}: got\n{got}\nnot\n{wanted}", got == wanted)
@@ -58,16 +61,15 @@ class Tally:
     def end(self) -> None:
         end(self.passed, self.failed)
 
-    def run(self, script: str, *words: object, **more: object) -> subprocess.CompletedProcess:
+    def run(self, script: str, *words: object, **more: object) -> Outcome:
         """Runs a script of examples/ in the room."""
-        return run_script(script, *words, **{"cwd": self.room, **more})
+        return ended(sys.executable, TOP / "examples" / script, *words, **{"cwd": self.room, **more})
 
     def says(self, what: str, words: list, status: int, said="", printed=None, **more: object) -> str:
         """What a script prints that has to end so, with this on standard error, and on standard output if told."""
-        run = run_script(*words, **{"cwd": self.room, **more})
-        got = run.returncode, run.stderr, run.stdout if printed is not None else None
-        self.is_same(what, got, (status, said, printed))
-        return run.stdout
+        run = Tally.run(self, *words, **more)
+        self.is_same(what, run, (status, run.out if printed is None else printed, said))
+        return run.out
 
     def refuses(self, what: str, words: list, said: str, status: int = 1, printed=None, **more: object) -> None:
         """A script ends with this line behind its name on standard error."""
@@ -115,10 +117,11 @@ def module_of(name: str, file: pathlib.Path) -> types.ModuleType:
     return module
 
 
-def run_script(name: str, *words: object, **more: object) -> subprocess.CompletedProcess:
-    """Runs a script of examples/, by its file's name. What it writes is text."""
-    how = {"stdout": subprocess.PIPE, "stderr": subprocess.PIPE, "text": True, "check": False, **more}
-    return subprocess.run([sys.executable, TOP / "examples" / name, *map(str, words)], **how)
+def needed(*words: object, **more: object) -> None:
+    """Runs a command without which nothing can be tried."""
+    ran = ended(*words, **more)
+    if ran.status:
+        sys.exit(f"{ran.out}{ran.err}0 passed, 1 failed")
 
 
 def timed(run: Callable, *words: object, most: float = math.inf, **more: object) -> tuple:
@@ -126,10 +129,9 @@ def timed(run: Callable, *words: object, most: float = math.inf, **more: object)
     that is allowed, it runs again, three times in all, and the least counts: what else a machine does may slow a run."""
     least = math.inf
     for _ in range(3):
-        before = resource.getrusage(resource.RUSAGE_CHILDREN)
+        before = sum(os.times()[2:4])
         done = run(*words, **more)
-        after = resource.getrusage(resource.RUSAGE_CHILDREN)
-        least = min(least, after.ru_utime + after.ru_stime - before.ru_utime - before.ru_stime)
+        least = min(least, sum(os.times()[2:4]) - before)
         if least < most:
             break
     return done, least
@@ -137,9 +139,8 @@ def timed(run: Callable, *words: object, most: float = math.inf, **more: object)
 
 def instructions(room: pathlib.Path, *command: object) -> int:
     """How many instructions a program executes, as valgrind counts them; 0 where it can't."""
-    words = ["valgrind", "--tool=callgrind", f"--callgrind-out-file={room / 'counts'}", *map(str, command)]
-    ran = subprocess.run(words, stdout=subprocess.DEVNULL, stderr=subprocess.PIPE, check=False)
-    return int((re.search(rb"Collected : (\d+)", ran.stderr) or [0, 0])[1])
+    ran = ended("valgrind", "--tool=callgrind", f"--callgrind-out-file={room / 'counts'}", *command)
+    return int((re.search(r"Collected : (\d+)", ran.err) or [0, 0])[1])
 
 
 def shim_in(room: pathlib.Path) -> pathlib.Path | None:
@@ -147,4 +148,4 @@ def shim_in(room: pathlib.Path) -> pathlib.Path | None:
     compiler = os.environ.get("CC") or next(filter(None, map(shutil.which, ("cc", "gcc", "clang"))), None)
     shim = room / "refusals.so"
     words = [compiler, "-O1", "-shared", "-fPIC", "-o", shim, TOP / "tests/refusals.c", "-ldl"]
-    return shim if compiler and subprocess.run(words, check=True) else None
+    return shim if compiler and ended(*words, check=True) else None

@@ -4,7 +4,7 @@ import pathlib
 import random
 from collections.abc import Iterator
 
-from tally import DEMO, written
+from tally import DEMO, Outcome, written
 from any_run import Namespace, RunReader
 from compare import laid
 from dumps import aml_of, order_of
@@ -14,7 +14,7 @@ from made_aml import SETS, table, tables
 from made_sets import SetMaker
 from reading import ALIAS, ELSE, EXTERNAL, FIELD_LISTS, IF, METHOD, ROWS, SCOPE, SCOPES
 from reading import Name, Named, Op
-from running import REFUSED, Options, Outcome, run_folder
+from running import REFUSED, Options, run_folder
 
 Path = tuple[str, ...]
 WHILE, MOST_OTHERS, METHOD_OBJECT = 0xA2, 3, 8
@@ -22,13 +22,8 @@ REGION, DATA_REGION, NAME = 0x5B80, 0x5B88, 0x08
 # What is handed to these by its name isn't written.
 TAKES_OBJECT = {0x71, 0x87, 0x8E, 0x5B25, 0x5B23, 0x5B24, 0x5B26, 0x5B27, 0x5B2A, 0x86}
 CONDREFOF, CONSTANTS, NUMBERS = 0x5B12, {0x00: 0, 0x01: 1}, {0x0A, 0x0B, 0x0C, 0x0E}
-# What a name is, the path that it declares or leads to, of a body's own name the place of its declaration, and the
-# paths to which it leads in other runs.
+# What a name is, where it leads, or of a body's own name the place of its declaration, and its paths in other runs
 Told = tuple[str, str, object, tuple]
-
-
-# ---- sample sets
-
 
 HOSTILE_FILES = {
     "<script>alert(1)<!--&\"'.dat": table(b"DSDT", SETS["hostile"][0]),
@@ -39,8 +34,7 @@ PAGES_FILES, RUNS_FILES = tables(*SETS["mine"]), tables(*SETS["runs"])
 
 
 def samples(room: pathlib.Path, folders: list, sets: int) -> Iterator[tuple[str, pathlib.Path, Options, Outcome]]:
-    """Sets with the options of a run, and how that ends: those above, folders, and so many made-up ones that are taken,
-    without and with code outside methods."""
+    """Sets, options of a run, and how it ends: of those above, of folders, and of so many made-up ones of two kinds."""
     named = [
         ("the set of docs/listing.md", written(room / "listed", PAGES_FILES), Options()),
         ("the hostile set", written(room / "hostile", HOSTILE_FILES), Options()),
@@ -52,21 +46,16 @@ def samples(room: pathlib.Path, folders: list, sets: int) -> Iterator[tuple[str,
     for any_run in (False, True):
         maker, number = SetMaker(random.Random(0), any_run=any_run), 0
         while number < sets:
-            trial = maker.trial()
-            with laid(trial) as (folder, options):
+            with laid(maker.trial()) as (folder, options):
                 outcome = run_folder(folder, options)
                 if not options.check and outcome.status != REFUSED:
                     yield f"made-up set {number}", folder, options, outcome
                     number += 1
 
 
-# ---- what the independent reading says of each name
-
-
 class Watched(Namespace):
-    """Keeps where the names of Scopes and the sources of Aliases led while the tables were loaded, what the names of
-    code outside methods meant, and the paths of which an External says that they are methods. Without that code all is
-    sure."""
+    """Keeps where the names of Scopes and the sources of Aliases led while the tables were loaded, what names of code
+    outside methods meant, and the paths that Externals call methods. Without that code all is sure."""
 
     def __init__(self, any_run: bool) -> None:
         super().__init__()
@@ -77,8 +66,7 @@ class Watched(Namespace):
 
 
 class WatchingReader(RunReader):
-    """Keeps where the names of Scopes and the sources of Aliases led, and what the names meant of terms that aren't
-    declarations, when they were read."""
+    """Keeps, while it reads, where names of Scopes and sources of Aliases led, and what names of other terms meant."""
 
     def named(self, at: int, end: int, position: str, level: int) -> tuple:
         term, rest = super().named(at, end, position, level)
@@ -104,7 +92,7 @@ class WatchingReader(RunReader):
 
     def keep(self, term: object) -> None:
         if not isinstance(term, Op) or ROWS[term.opcode].group != "declaration":
-            found = {str(name): may_mean(self.space, self.scope, name, {}) for name in names_in(term)}
+            found = {str(name): self.space.meant(self.scope, name) for name in names_in(term)}
             self.space.then.setdefault(id(term), found)
 
 
@@ -114,17 +102,6 @@ def names_in(term: object) -> list[Name]:
     if isinstance(term, Op):
         parts = [*term.parts, *(term.tail if term.row.tail == "e" else [])]
     return [term] if isinstance(term, Name) else [name for part in parts for name in names_in(part)]
-
-
-def may_mean(space: Namespace, scope: Path, name: Name, own: dict) -> list[Path]:
-    """The paths that a name may mean, the nearest first, up to one that stands in every run (docs/names.md)."""
-    found = []
-    for path in name.candidates(scope):
-        if path in own or space.kind(path):
-            found.append(path)
-        if path in own or space.is_sure(path):
-            return found
-    return found or [path for path in name.candidates(scope) if path in space.externals][:1]
 
 
 class Teller:
@@ -152,20 +129,10 @@ class Teller:
             self.told.append((str(name), what, of, others))
 
     def meant(self, name: Name, scope: Path, own: dict) -> list:
-        return self.then.get(str(name)) or may_mean(self.space, scope, name, own)
-
-    def tell_found(self, name: Name, scope: Path, own: dict, how: str | None, has_arguments: bool = False) -> None:
-        path, *others = paths = self.meant(name, scope, own) or [None]
-        self.use(name, scope, paths, own, how, has_arguments)
-        if path in own:
-            self.tell(name, "leads in its body", own[path])
-        else:
-            self.tell(name, "leads nowhere" if path is None else "leads", path, tuple(others[:MOST_OTHERS]))
+        return self.then.get(str(name)) or self.space.meant(scope, name, own)
 
     def tell_led(self, name: Name, path: Path, scope: Path) -> None:
-        path = path if self.space.is_known(path) else None
-        self.use(name, scope, [path], {}, "named")
-        self.tell(name, "leads nowhere" if path is None else "leads", path)
+        self.use(name, scope, [path if self.space.is_known(path) else None], {}, "named")
 
     def tell_declared(self, name: Name, scope: Path) -> Path:
         path = name.placed(scope)
@@ -181,6 +148,11 @@ class Teller:
                 told = "called" if is_method else how.partition(" ")[0]
             shown = None if is_own or path is None else path_text(path)
             self.uses.append((self.body, path_text(scope), str(name), shown, int(is_own), number, told))
+        path, *others = paths
+        if path in own:
+            self.tell(name, "leads in its body", own[path])
+        else:
+            self.tell(name, "leads nowhere" if path is None else "leads", path, tuple(others[:MOST_OTHERS]))
 
     def is_method(self, path: Path) -> bool:
         kind = self.space.kind(path)
@@ -215,19 +187,17 @@ class Teller:
                 self.seen.add(path)
                 self.tell(names[0], "declares" if is_first else "leads", path)
             elif opcode in (IF, ELSE, WHILE):
-                for part in term.parts:
-                    self.tell_term(part, scope, {}, "read")
+                self.tell_parts(term, scope, {}, {})
                 self.tell_terms(term.tail, scope)
             else:
                 self.tell_term(term, scope, {}, "read")
 
     def tell_term(self, term: object, scope: Path, own: dict, how: str | None) -> None:
         """The names of a term; the paths that it declares in a body are known behind it, with their places."""
-        if isinstance(term, Name):
-            self.tell_found(term, scope, own, how)
-        elif isinstance(term, Named):
-            self.tell_found(term.name, scope, own, how, bool(term.args))
-            for arg in term.args:
+        if isinstance(term, (Name, Named)):
+            name, args = (term, ()) if isinstance(term, Name) else term
+            self.use(name, scope, self.meant(name, scope, own) or [None], own, how, bool(args))
+            for arg in args:
                 self.tell_term(arg, scope, own, "passed by call")
         elif isinstance(term, Op):
             declared: dict[Path, int] = {}
@@ -282,8 +252,7 @@ class Teller:
 def becomes(opcode: int, kind: str, number: int) -> str | None:
     """What becomes of what stands as a part of an operator. An External uses nothing."""
     if kind == "S":
-        is_object = opcode in TAKES_OBJECT or opcode == CONDREFOF and number == 0
-        return "passed" if is_object else "written"
+        return "passed" if opcode in TAKES_OBJECT or opcode == CONDREFOF and number == 0 else "written"
     return None if opcode == EXTERNAL else {"D": "passed", "N": "named"}.get(kind, "read")
 
 

@@ -1,9 +1,8 @@
 #!/usr/bin/env python3
 """Tries the verdicts of tests/wrong_bodies.py on lines as the prover prints them, and whole checks of a made-up crate.
 
-In place of the prover the checks run a script, which takes a function with the word WRONG in it, or one that names a changed
-constant, for one with a goal that it can't show, and can't read the word UNREADABLE. The last line is 'N passed, N failed'.
-"""
+In place of the prover the checks run a script, which takes a function with the word WRONG in it, or one that names a
+changed constant, for one with a goal that it can't show, and can't read the word UNREADABLE."""
 
 import pathlib
 import re
@@ -49,7 +48,6 @@ TRIALS = [
     for count, lines in re.findall(r"^-- (\d+)\n((?:\w+ \| .*\n)+)", TEXT, re.M)
 ]
 
-
 # The made-up crate, as the kit's library gives one
 WORDS = ["--crate-name", "made_up", "src/lib.rt"]
 CRATE = types.SimpleNamespace(name="made_up", words=lambda flags, keeps: [*WORDS, *flags])
@@ -91,5 +89,4 @@ def main():
         check_trials(checks, str(checks.room))
 
 
-if __name__ == "__main__":
-    main()
+main()

@@ -3,11 +3,9 @@
 
     python3 tests/worked_runs.py [--read] [PROGRAM]
 
-PROGRAM is out/acpidis if left out. The rows are in the language of crates/acpi_cases (README.md there). A row `run` is a run
-over the dumps of the rows before it, from the last `set` on, in a folder of their own; below it, two columns in, stand its
-status, its text and its error lines. Each of them is also what the independent reading of tests/oracle says; with --read it
-alone is tried. The last line is 'N passed, N failed'.
-"""
+The rows are in the language of crates/acpi_cases (README.md there). A row `run` is a run over the dumps of the rows
+before it, from the last `set` on, in a folder of their own; below it, two columns in, stand its status, its text and
+its error lines. Each of them is also what the independent reading of tests/oracle says; with --read that alone."""
 
 import itertools
 
@@ -23,8 +21,6 @@ MARGIN = "  "
 
 
 class ProgramRows(Rows):
-    """Rows whose runs are those of the program."""
-
     def __init__(self, program):
         super().__init__()
         self.program = program
@@ -62,5 +58,4 @@ def main():
     checks.end()
 
 
-if __name__ == "__main__":
-    main()
+main()

@@ -5,25 +5,20 @@ usage: tests/wrong_bodies.py [--outside|--all] [--over FOLDER] [CRATE[/NAME]..]
 
 The wrong bodies are those of crates/CRATE/must-fail, with --outside those of crates/CRATE/wrong-bodies.edits, or both.
 The crates below are proved first, where that isn't done yet; with --over they are those that rt ci left in a copy of
-the repository. The last line is 'N passed, N failed'.
-
-There are three verdicts, each printed with its reason:
+the repository. There are three verdicts, each printed with its reason:
 
 - refused: the prover tried a goal of the wrong body's own function and couldn't show it. The goal's name is printed.
-- UNDECIDED: the function isn't proved, but no goal of it was tried and refused: a name of a proof no longer fits the changed
-  code, a text can't be read, or only what it calls isn't proved. That says nothing of the contract, so the run fails, and the
-  wrong body wants another form.
+- UNDECIDED: the function isn't proved, but no goal of it was tried and refused: a name of a proof no longer fits the
+  changed code, a text can't be read, or only what it calls isn't proved. That says nothing of the contract, so the run
+  fails, and the wrong body wants another form.
 - PROVED: the contract lets the wrong body through. The run fails.
 
 A function is proved from its own body and the contracts of what it calls. So one check of a crate with wrong bodies of
-different functions says of each whether it is proved, and the bodies of the others are left out at first, with a hole for
-each proof, unless out/ has kept proofs of the crate. A further wrong body of one function stands in a copy of it, but of a
-method of a trait or a function of a cycle of calls, whose wrong bodies are tried in different checks. What such checks don't
-refuse is tried with all bodies, and at last alone, as one is at once that stands in no function, over all functions of the
-crate. One whose text can't be read is told so, and the others are tried without it.
-
-What this file adds to `rt must-fail` is which bodies go together in a check, and whose goal was refused.
-"""
+different functions says of each whether it is proved, and the bodies of the others are left out at first, with a hole
+for each proof, unless out/ has kept proofs of the crate. A further wrong body of one function stands in a copy of it,
+but of a method of a trait or a function of a cycle of calls, whose wrong bodies are tried in different checks. What
+such checks don't refuse is tried with all bodies, and at last alone, as one is at once that stands in no function,
+over all functions of the crate. One whose text can't be read is told so, and the others are tried without it."""
 
 import collections
 import concurrent.futures
@@ -48,8 +43,7 @@ TABLE = re.compile(r"^(?:pub(?:\(\w+\))? )?static (\w+): .*?^[}\]];$", re.M | re
 
 # A function by the end of its name, and the module that it is written in; without a name the module's other items
 Place = collections.namedtuple("Place", "module name cycle")
-# The offsets of what stands before a function, of its body and of the line that ends it, its name, and the type and the
-# trait of its impl
+# The offsets of what stands before a function, of its body and of its last line, its name, its impl's type and trait
 Function = collections.namedtuple("Function", "place start begin end name type trait")
 # The number of the copy that it stands in, and 0 for the function itself
 WrongBody = collections.namedtuple("WrongBody", "name changes places copy", defaults=[0])
@@ -67,8 +61,7 @@ def kit():
 
 def module_of(file):
     """The module that a source is: the path of its names below the crate."""
-    words = file.removeprefix("src/").removesuffix(".rt").split("/")
-    return "::".join(it for it in words if it not in ("lib", "mod"))
+    return "::".join(it for it in file.removeprefix("src/").removesuffix(".rt").split("/") if it not in ("lib", "mod"))
 
 
 def functions_of(file, text):
@@ -147,28 +140,12 @@ def own_functions(sources):
     types = {found[1]: module_of(file) for file, text in sources.items() for found in TYPE.finditer(text)}
     for file, text in sources.items():
         for it in reversed(list(functions_of(file, text))):
-            *above, name = it.place.name.split("::")
-            if above and above[0] in types:
-                above = [*filter(None, types[above[0]].split("::")), *above]
-            if above == list(filter(None, it.place.module.split("::"))) or it.place.name.split("::")[0] in types:
-                called_on = re.findall(rf"([\w.:]*)\b{name}\(", text[it.begin : it.end])
+            if not it.trait and (not it.type or it.type in types):
+                called_on = re.findall(rf"([\w.:]*)\b{it.name}\(", text[it.begin : it.end])
                 # A field's method of the same name is another one.
                 is_lone = not it.place.cycle and all(re.fullmatch(r"self\.\w+\.", on) for on in called_on)
-                yield Own(file, it, [*above, name], is_lone)
-
-
-def spare_functions(sources, batch):
-    """Those whose bodies can be left out: that have no wrong body, and are lone or of a cycle without any."""
-    tried = {key for it in batch for place in it.places for key in (place.name, place.cycle)}
-    own = list(own_functions(sources))
-    of_cycles = collections.Counter(it.place.cycle for file, text in sources.items() for it in functions_of(file, text))
-    of_cycles.subtract(it.function.place.cycle for it in own)
-    for it in own:
-        place = it.function.place
-        # A cycle that a method of a trait belongs to is left in whole.
-        is_spare = it.is_lone or place.cycle and place.cycle not in tried and not of_cycles[place.cycle]
-        if place.name not in tried and is_spare:
-            yield it
+                module = types[it.type] if it.type else it.place.module
+                yield Own(file, it, [*filter(None, [*module.split("::"), it.type, it.name])], is_lone)
 
 
 def name_of_copy(name, number):
@@ -214,7 +191,6 @@ def add_copy(crate, lone, source, wrong, room):
 
 
 def copy_with(crate, batch, room):
-    """Makes a copy of a crate with these wrong bodies in it."""
     folder = f"{TOP}/crates/{crate}"
     for part in ("src", "specs", "proofs"):
         if os.path.isdir(f"{folder}/{part}"):
@@ -234,10 +210,17 @@ def copy_with(crate, batch, room):
 
 
 def leave_out_bodies(crate, room, batch):
-    """Makes the functions of a copy that have no wrong body never end, with a hole for the proof of each. What they
-    state is left, which is all that the others know of them."""
+    """Makes functions of a copy never end that have no wrong body, and are lone or of a cycle without any, with a hole
+    for the proof of each. What they state is left, which is all that the others know of them."""
     sources = sources_in(room)
-    for file, it, path, _ in list(spare_functions(sources, batch)):
+    tried = {key for it in batch for place in it.places for key in (place.name, place.cycle)}
+    own = list(own_functions(sources))
+    others = {it for file, text in sources.items() for it in functions_of(file, text)} - {it.function for it in own}
+    # A cycle that a method of a trait belongs to is left in whole.
+    left_in = tried | {None} | {it.place.cycle for it in others}
+    for file, it, path, is_lone in own:
+        if it.place.name in tried or not is_lone and it.place.cycle in left_in:
+            continue
         text = sources[file]
         # Without its body a function of a cycle calls no other.
         head = re.sub(r" *#\[cycle\(\w+\)\]\n", "", text[it.start : it.begin])
@@ -259,10 +242,9 @@ UNREAD = re.compile(r"^(?:\./)?((?:src|specs)/\S+?):(\d+)(?::\d+)?: error.*", re
 
 
 def check(rtlib, crate, batch, kept, only_these):
-    """Checks a copy of the crate with these wrong bodies, and returns what was printed, and of which of them that says nothing.
-    `only_these` says that the other functions' bodies are left out. Where a text can't be read nothing is said of any of them,
-    and where it stands in the functions of some, these come by themselves: the names of the unread, and of those left untried.
-    """
+    """Checks a copy of the crate with these wrong bodies, and returns what was printed, the names of those whose text
+    can't be read, and of those that are left untried for it: where a text can't be read nothing is said of any.
+    `only_these` says that the other functions' bodies are left out."""
     # What stands in no function, as a constant, is told by all functions of the crate.
     is_whole = any(not place.name for it in batch for place in it.places)
     modules = {} if is_whole else {place.name: place.module for it in batch for place in it.places}
@@ -271,23 +253,19 @@ def check(rtlib, crate, batch, kept, only_these):
         if only_these:
             leave_out_bodies(crate.name, room, batch)
         while True:
-            words = [rtlib.RATTLE, "check", *crate.words(["--jobs", "1"], keeps=False)]
-            words += ["--incremental", kept] if kept else []
-            words += ["--allow-holes"] if only_these else []
-            words += [word for name in modules for word in ("--only", name)]
-            how = {"stdin": subprocess.DEVNULL, "stdout": subprocess.PIPE, "stderr": subprocess.STDOUT, "errors": "replace"}
-            ran = subprocess.run(words, cwd=room, **how)
+            words = crate.words(["--jobs", "1"], keeps=False) + (["--incremental", kept] if kept else [])
+            words += ["--allow-holes"] * only_these + [word for name in modules for word in ("--only", name)]
+            ran = tally.ended(rtlib.RATTLE, "check", *words, cwd=room, stderr=subprocess.STDOUT)
             # An impl for one instance of a generic type gives its methods longer names: all of the module is checked.
-            unknown = re.search(r"has no function `(\S+)`", ran.stdout)
+            unknown = re.search(r"has no function `(\S+)`", ran.out)
             if not unknown or not modules.get(unknown[1]):
                 break
             modules[modules.pop(unknown[1])] = None
-        names = {it.name for it in batch}
         # Status 0 says that all is proved, 1 that something isn't; any other that nothing was judged.
-        if ran.returncode in (0, 1) and not UNREAD.search(ran.stdout) and ENDED.search(ran.stdout):
-            return ran.stdout, set(), set()
-        unread = unread_in(room, batch, ran.stdout)
-        return ran.stdout, unread, names - unread
+        if ran.status in (0, 1) and not UNREAD.search(ran.out) and ENDED.search(ran.out):
+            return ran.out, set(), set()
+        unread = unread_in(room, batch, ran.out)
+        return ran.out, unread, {it.name for it in batch} - unread
 
 
 def unread_in(room, batch, printed):
@@ -301,8 +279,7 @@ def unread_in(room, batch, printed):
     return found if places <= own else set()
 
 
-# What an answer is refused with that was tried at its goal. All else that is said of an answer, as that a name is not in scope
-# or that a value has no such field, says that it wasn't.
+# What an answer is refused with that was tried at its goal: all else, as a name not in scope, says that it wasn't.
 TRIED = re.compile(
     r"the two (?:types|values)|expected type|expected .*, but|no occurrence|no proof of|did not|does not|found no|list the missing equation|components but its type"
 )
@@ -322,10 +299,9 @@ UNPROVED = re.compile(r"`search` did not prove ((?:`[^`]+`(?:, )?)+)")
 
 
 def read_output(printed, proofs):
-    """What a check printed, by the path below proofs/ of each function or cycle that isn't proved: goals, and other reasons.
-    The goals are those that were tried and aren't shown, by the prover's own search or by an answer in `proofs`.
-    """
-    goals, others, false = collections.defaultdict(list), collections.defaultdict(list), set()
+    """What a check printed of functions and cycles that aren't proved, each with its path below proofs/: goals that
+    were tried and aren't shown, by the prover's own search or by an answer in `proofs`, and other reasons."""
+    goals, others, false = [], [], set()
     for line in printed.split("\n"):
         answer, ended, counterexample = REFUSED.match(line), re.match(r"fn \w+::(\S+): (.*)", line), FALSE.match(line)
         if answer:
@@ -334,9 +310,9 @@ def read_output(printed, proofs):
             # What else a file of answers declares is a step on the way.
             answers = re.findall(r"^pub (\S+)\s*:\s*goal\.", kept.read_text(), re.M) if kept.exists() else []
             if file == "Answers" and name in answers and TRIED.search(said) and not STALE.search(said):
-                goals[path].append(name)
+                goals.append((path, name))
             else:
-                others[path].append(f"{file}: `{name}`: {said}")
+                others.append((path, f"{file}: `{name}`: {said}"))
         elif counterexample:
             false.add(counterexample[1])
         elif ended:
@@ -346,34 +322,33 @@ def read_output(printed, proofs):
             path = file[1] if file else name.replace("::", "/")
             if unproved:
                 found = re.findall(r"`([^`]+)`", unproved[1])
-                goals[path].extend(f"{it}{' (false at some values)' * (it in false)}" for it in found)
+                goals += [(path, f"{it}{' (false at some values)' * (it in false)}") for it in found]
             elif said.removesuffix(MAY_WAIT) not in ("proved", "no holes") and not said.startswith("depends on a hole"):
-                others[path].append(said)
+                others.append((path, said))
             false = set()
     return goals, others
 
 
 def verdict_of(wrong, goals, others, printed):
-    """The verdict on a wrong body from the goals and other reasons that a check told, by the path of what was to be proved.
-    There is none, with the lines that were printed of it, where all that is said of its function is that a callee isn't proved.
-    """
+    """The verdict on a wrong body from the goals and other reasons that a check told. There is none, with the lines
+    that were printed of it, where all that is said of its function is that a callee isn't proved."""
     names = {place.name.rpartition("::")[2] for place in wrong.places if place.name}
     is_own = lambda path: any(stands_at(place, path) for place in wrong.places) or not names
-    own = []
-    for path, goal in ((path, goal) for path in goals if is_own(path) for goal in goals[path]):
+    own = {}
+    for path, goal in goals:
         # In a cycle of several functions a goal's name begins with that of its function.
         cycle = path.rpartition("/")[2].partition("+")[2]
-        if cycle in {"", *names} or any(goal.startswith(f"{name}-") for name in names):
-            own.append((path, goal))
+        if is_own(path) and (cycle in {"", *names} or any(goal.startswith(f"{name}-") for name in names)):
+            own[f"{goal} of {path}"] = None
     if own:
-        return Verdict("refused", "; ".join(dict.fromkeys(f"{goal} of {path}" for path, goal in own)))
-    told = [f"{path}: {it}" for path in others if is_own(path) for it in others[path]]
+        return Verdict("refused", "; ".join(own))
+    told = [f"{path}: {it}" for path, it in others if is_own(path)]
     ends = [said for name, said in re.findall(r"^fn \w+::(\S+): (.*)", printed, re.M) if is_own(name.replace("::", "/"))]
     if not told and ends and all(it.removesuffix(MAY_WAIT) == "proved" for it in ends):
         return Verdict("PROVED", "the contract lets it through")
     if any("it calls" not in it for it in told):
         return Verdict("UNDECIDED", "\n".join(told))
-    elsewhere = [f"{path}: {it}" for found in (goals, others) for path in found for it in found[path]]
+    elsewhere = [f"{path}: {it}" for path, it in goals + others]
     return Verdict(None, "\n".join(told or elsewhere or printed.rstrip("\n").split("\n")[-20:]))
 
 
@@ -388,8 +363,7 @@ def verdicts_on(batch, checked, proofs, left_out):
     if len(batch) == 1 and not left_out:
         return {name: Verdict(it.kind or "UNDECIDED", it.reason) for name, it in found.items()}
     # A fault of a function that no wrong body stands in is the check's own, and then nothing is believed but what is unread.
-    in_batch = lambda path: any(stands_at(place, path) for it in batch for place in it.places)
-    is_sound = all(map(in_batch, goals))
+    is_sound = all(any(stands_at(place, path) for it in batch for place in it.places) for path, _ in goals)
     is_told = lambda name, it: name in unread or is_sound and it.kind and (it.kind == "refused" or not left_out)
     return {name: it for name, it in found.items() if is_told(name, it)}
 
@@ -397,8 +371,7 @@ def verdicts_on(batch, checked, proofs, left_out):
 def judged(rtlib, crate, waiting, kept, is_seeded):
     """Gives the verdicts on all wrong bodies of a crate, each with its name, as they come."""
     left_out, alone = not is_seeded, False
-    own = own_functions(sources_in(f"{TOP}/crates/{crate.name}"))
-    lone = {it.function.place.name for it in own if it.is_lone}
+    lone = {it.function.place.name for it in own_functions(sources_in(f"{TOP}/crates/{crate.name}")) if it.is_lone}
     while waiting:
         batch = waiting[:1] if alone else first_batch(waiting, lone)
         left_out = left_out and all(place.name for it in batch for place in it.places)
@@ -425,8 +398,9 @@ def main():
                 sys.exit(f"{crate.name}: what it stands on isn't proved")
     counts = collections.Counter()
 
-    def judge(crate, bodies, kept):
+    def judge(task):
         # It begins with what `rt check` kept, if anything: then each check proves little more than what changed.
+        (crate, bodies), kept = task, f"{room}/{task[0].name}"
         is_seeded = given.over == TOP and os.path.isdir(f"{crate.folder}/out/incremental")
         if is_seeded:
             shutil.copytree(f"{crate.folder}/out/incremental", kept)
@@ -438,10 +412,7 @@ def main():
 
     lanes = int(os.environ.get("RT_JOBS") or len(os.sched_getaffinity(0)))
     with tempfile.TemporaryDirectory() as room, concurrent.futures.ThreadPoolExecutor(lanes) as pool:
-        tasks.sort(key=lambda it: -len(it[1]))
-        running = [pool.submit(judge, crate, bodies, f"{room}/{crate.name}") for crate, bodies in tasks]
-        for it in running:
-            it.result()
+        list(pool.map(judge, sorted(tasks, key=lambda it: -len(it[1]))))
     tally.end(counts["refused"], counts["UNDECIDED"] + counts["PROVED"])
 
 

@@ -5,12 +5,11 @@ stands surely or only may stand. Without that option all that tables declare sta
 from collections import namedtuple
 from dataclasses import dataclass
 
-from loading import MOST_METHODS, PREDEFINED, Loaded, Method, own_count, path_text, placed, uses_in
-from reading import ALIAS, EXTERNAL, FIELD_LISTS, KINDS, METHOD, ROWS, SCOPE, SCOPES, Reader, Refused
+from loading import MOST_METHODS, PREDEFINED, Loaded, Method, own_count, path_text, placed
+from reading import ALIAS, EXTERNAL, FIELD_LISTS, KINDS, METHOD, ROWS, SCOPE, SCOPES, Reader, Refused, require
 
 # The kinds of paths that a Scope opens in every run that has them
 SCOPE_KINDS = {"Scope", *(KINDS[opcode] for opcode in SCOPES - {SCOPE})}
-
 
 # A name where a value is wanted or a term stands, with the number of its arguments that were read
 Use = namedtuple("Use", "table scope name count in_declaration")
@@ -64,14 +63,8 @@ class Namespace:
 
     def counts_met(self, scope, name, declared):
         """The counts of all that a name may mean, whichever run it is."""
-        met = []
-        for path in name.candidates(scope):
-            if path in declared:
-                return [*met, 0]
-            met += self.counts(path)
-            if self.is_sure(path):
-                return met
-        return met
+        paths = self.meant(scope, name, declared)
+        return [count for path in paths for count in ([0] if path in declared else self.counts(path))]
 
     def arity(self, scope, unknown_zero=False):
         def count(declared, name):
@@ -90,11 +83,19 @@ class Namespace:
     def add_external(self, path, count):
         self.externals[path] = max(self.externals.get(path, 0), count)
 
+    def meant(self, scope, name, declared=()):
+        """The paths that a name may mean, the nearest first, up to one that stands in every run; where nothing declares
+        any, the first of which an External tells."""
+        found = []
+        for path in name.candidates(scope):
+            if path in declared or self.kinds_of(path):
+                found.append(path)
+            if path in declared or self.is_sure(path):
+                return found
+        return found or [path for path in name.candidates(scope) if path in self.externals][:1]
+
     def first(self, scope, name, declared=()):
-        """The first candidate of a name that something declares; else the first of which an External tells."""
-        candidates = name.candidates(scope)
-        found = (path for path in candidates if path in declared or self.kinds_of(path))
-        return next(found, next((path for path in candidates if path in self.externals), None))
+        return next(iter(self.meant(scope, name, declared)), None)
 
     def find(self, scope, name):
         """Where a name leads in every run, or None."""
@@ -106,8 +107,7 @@ class Namespace:
     def lead(self, scope, name, missing):
         """Where the name of a Scope or an Alias' source leads."""
         path, found = placed(scope, name), self.find(scope, name)
-        if found is None:
-            raise Refused(missing, path=path_text(path))
+        require(found is not None, Refused, missing, None, path_text(path))
         return found
 
     def opened(self, scope, name):
@@ -123,8 +123,7 @@ class Namespace:
         return all(kind[0] in SCOPE_KINDS for kind in self.kinds_of(path))
 
     def has_parent(self, scope, name):
-        """Whether every run has the path above a declared one. Where it isn't there, an interpreter passes over the
-        declaration, with all that stands inside."""
+        """Whether every run has the path above a declared one, without which it passes over the declaration."""
         path = name.placed(scope)
         return path is not None and self.is_sure(path[:-1])
 
@@ -138,8 +137,7 @@ class Namespace:
 
     def declare_so(self, scope, name, kind, is_sure, method=None):
         """Declares a path, and says whether it was declared before."""
-        if kind[0] == "Method" and len(self.methods) >= MOST_METHODS:
-            raise Refused("TooManyMethods")
+        require(kind[0] != "Method" or len(self.methods) < MOST_METHODS, Refused, "TooManyMethods")
         path = placed(scope, name)
         is_again = path in self.declarations
         self.declarations.setdefault(path, []).append((kind, is_sure))
@@ -162,9 +160,7 @@ class RunReader(Reader):
     scope: tuple = ()
     is_sure: bool = True
     in_declaration: bool = False
-
-    def read(self):
-        return self.terms(0, len(self.code), "run", 1)
+    outermost = "run"
 
     def named(self, at, end, position, level):
         if position == "run":
@@ -185,7 +181,7 @@ class RunReader(Reader):
     def block(self, term, at, end, level):
         outside = self.scope, self.is_sure
         self.scope, self.is_sure = self.inside(term)
-        terms = self.terms(at, end, "run", level + 1)
+        terms = super().block(term, at, end, level)
         self.scope, self.is_sure = outside
         return terms
 
@@ -221,18 +217,14 @@ class RunReader(Reader):
         return path, is_sure and not is_again
 
 
-class TreeLoader(RunReader):
-    """Loads a table that was read as one without code to be run: each of its paths is declared once, surely."""
+class Loader(RunReader):
+    """Reads a table again that was read as one without code to be run: each of its paths is declared once, surely."""
 
-    def load(self, terms):
-        for term in terms:
-            self.space.uses += [Use(self.table, self.scope, name, 0, True) for name in uses_in(term)]
-            if term.row.tail == "t":
-                outside = self.scope
-                self.scope, _ = self.inside(term)
-                self.load(term.tail)
-                self.scope = outside
-            self.leave(term)
+    outermost = "module"
+
+    def count(self, name, at):
+        self.space.uses.append(Use(self.table, self.scope, name, 0, True))
+        return 0
 
     def inside(self, term):
         if term.opcode != SCOPE:
@@ -241,28 +233,25 @@ class TreeLoader(RunReader):
 
     def declare(self, name, kind, has_source=True, method=None):
         path, is_again = self.space.declare_so(self.scope, name, kind, True, method)
-        if is_again or path == ():
-            raise Refused("Duplicate", path=path_text(path))
+        require(not is_again and path != (), Refused, "Duplicate", None, path_text(path))
         return path, True
 
 
 def load(codes, given=(), any_run=False, unknown_zero=False):
-    """Reads and loads the AML of tables in load order, with code to be run from the left, and then looks at each count
-    that was read again."""
+    """Reads and loads the AML of tables in load order, and then looks at each count that was read again."""
     loaded, table = Loaded(codes, [], Namespace(given)), None
     space = loaded.space
     try:
         for table, code in enumerate(codes):
-            if any_run:
-                loaded.trees.append(RunReader(code, space=space, table=table).read())
-            else:
-                loaded.trees.append(Reader(code).read())
-                TreeLoader(code, space=space, table=table).load(loaded.trees[-1])
+            if not any_run:
+                Reader(code).read()
+            loaded.trees.append((RunReader if any_run else Loader)(code, space=space, table=table).read())
         for use in space.uses:
             table, path = use.table, use.name.placed(use.scope)
             # It may have another number of arguments after all tables than where it was read.
-            if space.arity(use.scope, unknown_zero or use.in_declaration)((), use.name) != use.count:
-                raise Refused("ModuleCall", path=path_text(path) if any_run and path is not None else None)
+            count = space.arity(use.scope, unknown_zero or use.in_declaration)((), use.name)
+            told = path_text(path) if any_run and path is not None else None
+            require(count == use.count, Refused, "ModuleCall", None, told)
     except Refused as fault:
         fault.table = None if fault.name == "TooManyMethods" else table
         raise

@@ -3,8 +3,7 @@
 
     python3 tests/oracle/cases.py < crates/acpi_cases/stdin > crates/acpi_cases/stdout
 
-It shares nothing with the program: the modules beside it read code, namespaces, tables and whole sets after docs/.
-"""
+It shares nothing with the program: the modules beside it read code, namespaces, tables and whole sets after docs/."""
 
 import sys
 
@@ -43,9 +42,9 @@ def options_of(words):
     return Options(workers=workers, **{flag: flag in words for flag in FLAGS})
 
 
-def counted(words, code):
+def counted(count, code, reader=Reader):
     """A reader of a body in which each name takes so many arguments."""
-    return Reader(code, lambda _declared, _name: int(words))
+    return reader(code, lambda _declared, _name: int(count))
 
 
 def text_of(reader):
@@ -59,7 +58,7 @@ def text_of(reader):
 
 
 def each_text(words, code):
-    """The text of each term of a body: how many bytes it has, and its lines, joined by newlines."""
+    """Of each term of a body how many bytes its text has, and its lines."""
     for term in counted(words, code).read():
         lines = list(term_lines(term, None, 0))
         yield from [f"{len(chr(10).join(lines))} bytes:", *lines]
@@ -77,9 +76,9 @@ class StepReader(Reader):
 
 def step_text(words, code):
     """Where the term at an offset ends, and what stands inside it, where each name takes so many arguments."""
-    count, at = map(int, words.split())
-    reader = StepReader(code, lambda _declared, _name: count)
-    term, end = reader.term(at, len(code), "run", 1)
+    count, at = words.split()
+    reader = counted(count, code, StepReader)
+    term, end = reader.term(int(at), len(code), "run", 1)
     opcode = term.opcode if isinstance(term, Op) else None
     start, behind = reader.span or (term.tail if opcode == METHOD else (0, None))
     inside = "" if behind is None else f", inside {behind - start} bytes at {start}"
@@ -88,8 +87,8 @@ def step_text(words, code):
 
 def name_text(_, code):
     name, length = Reader(code).name(0, len(code))
-    lead = code[name.root + name.ups]
-    yield " ".join([f"{FORMS.get(lead, 'One')}, {length} bytes:", *["\\"] * name.root, *["^"] * name.ups, *name.segs])
+    form = FORMS.get(code[name.root + name.ups], "One")
+    yield " ".join([f"{form}, {length} bytes:", *["\\"] * name.root, *["^"] * name.ups, *name.segs])
 
 
 def length_text(_, code):
@@ -112,9 +111,8 @@ def madt_text(_, table):
 
 
 def map_text(words, text):
-    addresses = parse_map(text, words.split(" "))
-    given = {name: addresses.get(name.encode()) for name in words.split(" ")}
-    return [f"{name} {'none' if address is None else f'{address:X}'}" for name, address in given.items()]
+    addresses = {name.decode(): f"{address:X}" for name, address in parse_map(text, words.split(" ")).items()}
+    return [f"{name} {addresses.get(name, 'none')}" for name in words.split(" ")]
 
 
 OF_BYTES = {
@@ -169,8 +167,6 @@ OF_NAME = {
     "arity_unknown_zero": lambda names, scope, name, declared: names.arity(scope, True)(declared, name),
 }
 
-
-# Rows of a set
 OF_SETS = set("set dump raw cut put add order orders run".split())
 
 
@@ -274,9 +270,7 @@ class Rows:
 def main():
     rows = Rows()
     for row in sys.stdin.read().splitlines():
-        print(row)
-        for line in rows.answer(row):
-            print("  " + line)
+        print(row, *rows.answer(row), sep="\n  ")
 
 
 if __name__ == "__main__":

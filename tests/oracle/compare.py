@@ -2,17 +2,15 @@
 """Compares what acpidis prints with an independent reading, over folders that are made up near the grammar and then
 damaged.
 
-    python3 tests/oracle/compare.py [--seconds N | --sets N] [--seed N] [--with-externals] [--any-run] [--workers N,N..]
-        [--deep] [--mutated] [--read] [FOLDER ..]
+    python3 tests/oracle/compare.py [--sets N] [--seed N] [--with-externals] [--any-run] [--workers N,N..] [--deep]
+        [--mutated] [--read] [FOLDER ..]
 
 Standard output, standard error and the status are compared whole; besides, a run may take 10 seconds of processor
-time, a minute in all, and 2 GB. A FOLDER of dumps is compared as it stands, and then damaged copies of it. The first
-sets that differ are kept, and the status is 1. With --with-externals most made-up sets come with a file for the
-option --externals, and with --any-run with code outside methods and this option, which FOLDERs are run with too. With
---deep the terms of a third of the made-up sets stand in a deep scope. With --mutated each set has one to four changes
-more. With --workers each is run by each of these numbers of workers. With --read no program is run, and it is only
-said how the sets end. The same seed makes the same sets.
-"""
+time, a minute in all, and 2 GB. A FOLDER is compared as it stands, and then damaged copies of it. The first sets that
+differ are kept. With --with-externals most made-up sets come with a file for the option --externals, and with
+--any-run with code outside methods and this option, which FOLDERs are run with too. With --deep the terms of a third
+of the made-up sets stand in a deep scope. With --mutated each set has one to four changes more. With --workers each is
+run by each of these numbers of workers. With --read it is only said how the sets end."""
 
 import collections
 import contextlib
@@ -24,13 +22,13 @@ import resource
 import shutil
 import subprocess
 import tempfile
-import time
 
-from trying import asked, built, end, first_difference, run, written
+from trying import Outcome, asked, built, first_difference, new_room, run, written
 from folders import file_names
 from made_sets import SetMaker
 from mutating import MutatedMaker
-from running import DONE, REFUSED, Options, Outcome, run_folder
+from running import DONE, REFUSED, Options, run_folder
+from tally import Tally
 
 FOLDER, EXTERNALS = "set", "externals.txt"
 MARK = re.compile(r"(?<= )(Maybe|Times)(?= [0-9]+$|$| Times [0-9]+$)", re.MULTILINE)
@@ -61,28 +59,26 @@ def difference_of(got, wanted):
     return first_difference(*([status(it), *it.err.split("\n"), *it.out.split("\n")] for it in (got, wanted)))
 
 
-class Comparison:
-    """Compares one folder after another, and counts what they have and how they end, so that a reader sees what was
-    compared."""
+class Comparison(Tally):
+    """Compares folders, and counts what they have and how they end, so that a reader sees what was compared."""
 
     def __init__(self, program, workers):
+        super().__init__()
         self.program, self.workers, self.met = program, workers, collections.Counter()
-        self.sets = self.differences = 0
 
     def compare(self, folder, options):
-        wanted = run_folder(folder, options)
-        self.sets += 1
+        wanted, said = run_folder(folder, options), ""
         self.count(wanted)
         if options.externals is not None and wanted.status != REFUSED:
             self.met["changed by externals"] += wanted != run_folder(folder, options._replace(externals=None))
         runs = [options._replace(workers=it) for it in self.workers or [options.workers]]
-        for asked in runs if self.program else []:
-            got, much = measured_run(self.program, folder, asked)
+        for one in runs if self.program else []:
+            got, much = measured_run(self.program, folder, one)
             difference = difference_of(got, wanted) or much
             if difference:
-                self.differences += 1
-                print(f"set {self.sets} differs: acpidis {' '.join(kept_words(folder, asked))}: {difference}")
-                return
+                said = f"acpidis {' '.join(kept_words(folder, one))}: {difference}"
+                break
+        self.is_so(said, not said)
 
     def count(self, outcome):
         """Counts sets by their ends, and what is listed of them: methods, bodies, and paths with marks."""
@@ -106,19 +102,18 @@ def kept_words(folder, options):
 @contextlib.contextmanager
 def laid(trial):
     """The folder of what a trial reads, as long as it is wanted, and the options of its run."""
-    with tempfile.TemporaryDirectory() as name:
-        folder, counts, options = pathlib.Path(name, FOLDER), pathlib.Path(name, EXTERNALS), trial.options
-        written(folder, trial.files)
+    with new_room() as room:
+        folder, options = written(room / FOLDER, trial.files), trial.options
         if trial.externals is not None:
-            counts.write_bytes(trial.externals)
-            options = options._replace(externals=str(counts))
+            (room / EXTERNALS).write_bytes(trial.externals)
+            options = options._replace(externals=str(room / EXTERNALS))
         yield folder, options
 
 
 def main():
     words = asked(
-        __doc__, seconds=60.0, sets=int, seed=0, with_externals=False, any_run=False, deep=False, mutated=False,
-        read=False, workers="", folders=(),
+        __doc__, sets=1000, seed=0, with_externals=False, any_run=False, deep=False, mutated=False, read=False,
+        workers="", folders=(),
     )  # fmt: skip
     workers = [int(it) for it in words.workers.split(",")] if words.workers else None
     comparison = Comparison(None if words.read else built(), workers)
@@ -128,15 +123,12 @@ def main():
     known = [{name: (folder / name).read_bytes() for name in file_names(folder)} for folder in words.folders]
     make = MutatedMaker if words.mutated else SetMaker
     maker = make(random.Random(words.seed), known, words.with_externals, words.any_run, words.deep)
-    number, until = 0, time.monotonic() + words.seconds
-    while number < words.sets if words.sets is not None else time.monotonic() < until:
-        if comparison.differences >= MOST_DIFFERENCES:
-            break
-        number += 1
-        with laid(maker.trial()) as laid_out:
-            comparison.compare(*laid_out)
+    for _ in range(words.sets):
+        if comparison.failed < MOST_DIFFERENCES:
+            with laid(maker.trial()) as laid_out:
+                comparison.compare(*laid_out)
     print(f"seed {words.seed}:", ", ".join(f"{count} {what}" for what, count in comparison.met.most_common()))
-    end(comparison.sets - comparison.differences, comparison.differences)
+    comparison.end()
 
 
 if __name__ == "__main__":

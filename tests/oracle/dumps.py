@@ -5,6 +5,7 @@ import re
 from collections import namedtuple
 
 from printing import file_text, hexadecimal, quoted
+from reading import require
 
 MOST_DUMPS, MOST_BYTES = 512, 16_777_216
 HEADER_LENGTH, FADT_LENGTH, MADT_LENGTH = 36, 116, 44
@@ -16,8 +17,7 @@ TABLES = (pathlib.Path(__file__).parent / "tables.txt").read_text().split("\n\n"
 FADT, MADT = (table.splitlines()[1:] for table in TABLES)
 # A field of the FADT: its label, its offset, its width.
 FADT_FIELDS = [(label, int(at), int(width)) for label, at, width in map(str.split, FADT)]
-# A record of the MADT by its type and length: its label, and of each field label, offset, width, and whether it is
-# hexadecimal
+# A record of the MADT by its type and length: its label, and of each field label, offset, width, and is_hex
 RECORDS = {}
 for head, *columns in (line.split(" | ") for line in MADT):
     kind, length, name = head.split()
@@ -53,8 +53,7 @@ def sums_to_zero(data):
 
 def table_of(data):
     """The bytes of a table with the standard header."""
-    if len(data) < HEADER_LENGTH or not HEADER_LENGTH <= little(data, 4, 4) <= len(data):
-        raise Bad("Short")
+    require(HEADER_LENGTH <= little(data, 4, 4) <= len(data), Bad, "Short")
     return data[:little(data, 4, 4)]
 
 
@@ -67,59 +66,50 @@ def is_wide(root):
     return root[15] >= 2
 
 
-def root_sums(data):
-    return sums_to_zero(data[:20]) and (not is_wide(data) or sums_to_zero(data[:little(data, 20, 4)]))
+def has_sums(data):
+    """Whether the checksums of a whole dump are right. A FACS has none."""
+    if data.startswith(ROOT):
+        return sums_to_zero(data[:20]) and (not is_wide(data) or sums_to_zero(data[:little(data, 20, 4)]))
+    return data.startswith(FACS) or sums_to_zero(table_of(data))
 
 
 def addresses_of(table, signature=None):
     """The addresses that an XSDT or an RSDT lists, by its signature or another one."""
     width = LISTS[signature or table[:4]]
-    if len(table) < HEADER_LENGTH or (len(table) - HEADER_LENGTH) % width:
-        raise Bad("BadRoot")
+    require(len(table) >= HEADER_LENGTH and (len(table) - HEADER_LENGTH) % width == 0, Bad, "BadRoot")
     return [little(table, at, width) for at in range(HEADER_LENGTH, len(table), width)]
 
 
 def records_of(madt):
-    if len(madt) < MADT_LENGTH:
-        raise Bad("Short")
+    require(len(madt) >= MADT_LENGTH, Bad, "Short")
     at, records = MADT_LENGTH, []
     while at < len(madt):
         length = madt[at + 1] if at + 1 < len(madt) else 0
-        if length < 2 or at + length > len(madt):
-            raise Bad(f"MadtRecord at {at}")
+        require(2 <= length <= len(madt) - at, Bad, f"MadtRecord at {at}")
         records.append(madt[at:at + length])
         at += length
     return records
 
 
 def check_dump(data, any_sum):
-    if len(data) > MOST_BYTES:
-        raise Bad("TooLarge")
+    require(len(data) <= MOST_BYTES, Bad, "TooLarge")
     if data.startswith(ROOT):
         is_whole = len(data) >= 20 and (not is_wide(data) or len(data) >= 36 and 36 <= little(data, 20, 4) <= len(data))
-        if not is_whole:
-            raise Bad("BadRoot")
-        if not any_sum and not root_sums(data):
-            raise Bad("BadSum")
+        require(is_whole, Bad, "BadRoot")
     elif data.startswith(FACS):
-        if len(data) < 8 or not 8 <= little(data, 4, 4) <= len(data):
-            raise Bad("Short")
-    else:
-        table = table_of(data)
-        if not any_sum and not sums_to_zero(table):
-            raise Bad("BadSum")
-        if table.startswith(b"FACP") and len(table) < FADT_LENGTH:
-            raise Bad("FadtShort")
-        if table.startswith(b"APIC"):
-            records_of(table)
-        elif table[:4] in LISTS:
-            addresses_of(table)
+        require(8 <= little(data, 4, 4) <= len(data), Bad, "Short")
+    table = data if data.startswith((ROOT, FACS)) else table_of(data)
+    require(any_sum or has_sums(data), Bad, "BadSum")
+    require(not table.startswith(b"FACP") or len(table) >= FADT_LENGTH, Bad, "FadtShort")
+    if table.startswith(b"APIC"):
+        records_of(table)
+    elif table[:4] in LISTS:
+        addresses_of(table)
 
 
 def order_of(dumps, any_sum):
     """The indexes of the definition blocks in load order."""
-    if len(dumps) > MOST_DUMPS:
-        raise Bad("TooManyTables")
+    require(len(dumps) <= MOST_DUMPS, Bad, "TooManyTables")
     for index, dump in enumerate(dumps):
         try:
             check_dump(dump.data, any_sum)
@@ -135,10 +125,8 @@ def signed(dumps, signature):
 
 def order_by_names(dumps):
     dsdts = signed(dumps, b"DSDT")
-    if not dsdts:
-        raise Bad("NoDsdt")
-    if len(dsdts) > 1:
-        raise Bad("TwoDsdts", dsdts[1])
+    require(dsdts, Bad, "NoDsdt")
+    require(len(dsdts) == 1, Bad, "TwoDsdts", *dsdts[1:2])
 
     def place(index):
         """The number at the end of the name without its last part, and the name."""
@@ -157,54 +145,46 @@ def indexes_by_address(dumps):
 def order_by_chain(dumps):
     at = indexes_by_address(dumps)
     roots, fadts, dsdts, ssdts = (signed(dumps, word) for word in (ROOT, b"FACP", b"DSDT", b"SSDT"))
-    if not roots:
-        raise Bad("RootMissing")
+    require(roots, Bad, "RootMissing")
     root = dumps[roots[0]].data
     xsdt = little(root, 24, 8) if is_wide(root) else 0
     signature, address = (b"XSDT", xsdt) if xsdt else (b"RSDT", little(root, 16, 4))
     tables = at.get(address)
-    if tables not in signed(dumps, signature):
-        raise Bad("RootMissing", roots[0])
+    require(tables in signed(dumps, signature), Bad, "RootMissing", roots[0])
     listed = [at[address] for address in addresses_of(table_of(dumps[tables].data)) if address in at]
     fadts = [index for index in listed if index in fadts]
-    if not fadts:
-        raise Bad("FadtMissing", tables)
+    require(fadts, Bad, "FadtMissing", tables)
     fadt = table_of(dumps[fadts[0]].data)
     dsdt = at.get((little(fadt, 140, 8) if len(fadt) >= 148 else 0) or little(fadt, 40, 4))
-    if dsdt not in dsdts:
-        raise Bad("NoDsdt")
+    require(dsdt in dsdts, Bad, "NoDsdt")
     return [dsdt, *dict.fromkeys(index for index in listed if index in ssdts)]
 
 
 def dump_lines(dumps):
     """The first part of a listing."""
-    at = indexes_by_address(dumps)
-    owners = {address: dumps[index].name for address, index in at.items()}
+    owners = {address: dumps[index].name for address, index in indexes_by_address(dumps).items()}
     for dump in dumps:
-        line, sums = root_line(dump) if dump.data.startswith(ROOT) else table_line(dump)
+        line = (root_line if dump.data.startswith(ROOT) else table_line)(dump)
         address = "" if dump.address is None else f" At {dump.address:016X}"
-        yield line + address + ("" if sums else " BadSum")
+        yield line + address + ("" if has_sums(dump.data) else " BadSum")
         yield from (f"  {line}" for line in content_lines(dump.data, owners))
 
 
 def root_line(dump):
-    """The line of a root pointer, and whether its sums are right."""
     data = dump.data
     line = f"Root {file_text(dump.name)} Oem {quoted(data[9:15])} Revision {data[15]} Rsdt {little(data, 16, 4):08X}"
     if is_wide(data):
         line += f" Length {little(data, 20, 4)} Xsdt {little(data, 24, 8):016X}"
-    return line, root_sums(data)
+    return line
 
 
 def table_line(dump):
-    """The line of any other table, and whether its sum is right."""
     data = dump.data
     line = f"Table {file_text(dump.name)} {quoted(data[:4])} Length {little(data, 4, 4)}"
     if data.startswith(FACS):
-        return line, True
+        return line
     line += f" Revision {data[8]} Oem {quoted(data[10:16])} {quoted(data[16:24])} {little(data, 24, 4):08X}"
-    line += f" Creator {quoted(data[28:32])} {little(data, 32, 4):08X}"
-    return line, sums_to_zero(table_of(data))
+    return f"{line} Creator {quoted(data[28:32])} {little(data, 32, 4):08X}"
 
 
 def content_lines(data, owners):

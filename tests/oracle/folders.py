@@ -6,6 +6,7 @@ import re
 
 from dumps import MOST_BYTES, MOST_DUMPS, Dump
 from printing import file_text
+from reading import require
 
 MAP_NAME = "tables.map"
 SEGMENT = rb"[A-Z_][A-Z0-9_]{3}"
@@ -29,8 +30,7 @@ def read_folder(folder):
     """The dumps of a folder, ordered by the bytes of their names."""
     names = file_names(folder)
     dumps = [name for name in names if name != MAP_NAME]
-    if len(dumps) > MOST_DUMPS:
-        raise Unreadable("TooManyTables")
+    require(len(dumps) <= MOST_DUMPS, Unreadable, "TooManyTables")
     place = os.fsencode(folder)
     contents = [read_file(os.path.join(place, name.encode()), name) for name in dumps]
     addresses = {}
@@ -47,11 +47,10 @@ def read_externals(file):
 def file_names(folder):
     """The names of the regular files of a folder, in the order of their bytes."""
     try:
-        with os.scandir(os.fsencode(folder)) as entries:
-            names = [(entry.name.decode(), entry.is_file(follow_symlinks=False)) for entry in entries]
+        entries = [(entry.name.decode(), entry) for entry in os.scandir(os.fsencode(folder))]
+        return sorted((name for name, it in entries if it.is_file(follow_symlinks=False)), key=str.encode)
     except (OSError, UnicodeDecodeError) as error:
         raise Unreadable("cannot read folder") from error
-    return sorted((name for name, is_file in names if is_file), key=str.encode)
 
 
 def read_file(path, name):
@@ -66,8 +65,7 @@ def read_file(path, name):
 def read_lines(path, name, what, parse, *more):
     """What is parsed of the text of a file, which may not be too long."""
     text = read_file(path, name)
-    if len(text) > MOST_BYTES:
-        raise Unreadable(f"cannot read {file_text(name)}")
+    require(len(text) <= MOST_BYTES, Unreadable, f"cannot read {file_text(name)}")
     try:
         return parse(text, *more)
     except LineFault as fault:
@@ -79,8 +77,7 @@ def lines_of(text, form):
     lines = text.split(b"\n")
     for number, line in enumerate(lines if lines[-1] else lines[:-1], 1):
         found = form.fullmatch(line)
-        if not found:
-            raise LineFault("BadLine", number)
+        require(found, LineFault, "BadLine", number)
         yield number, found
 
 
@@ -89,10 +86,8 @@ def parse_map(text, names):
     known, addresses = {name.encode() for name in names}, {}
     for number, line in lines_of(text, PLACE):
         address, name = int(line[1], 16), line[2]
-        if not name or name not in known:
-            raise LineFault("NoSuchFile", number)
-        if name in addresses or address in addresses.values():
-            raise LineFault("Again", number)
+        require(name and name in known, LineFault, "NoSuchFile", number)
+        require(name not in addresses and address not in addresses.values(), LineFault, "Again", number)
         addresses[name] = address
     return addresses
 

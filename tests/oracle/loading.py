@@ -2,16 +2,13 @@
 
 from collections import namedtuple
 
-from reading import Named, Op, Reader, Refused
+from reading import Reader, Refused, require
 
 MOST_METHODS = 1_048_576
 
 PREDEFINED = {
-    **{path: ("Scope",) for path in [(), ("_GPE",), ("_PR_",), ("_SB_",), ("_SI_",), ("_TZ_",)]},
-    ("_GL_",): ("Mutex",),
-    ("_OS_",): ("Name",),
-    ("_REV",): ("Name",),
-    ("_OSI",): ("Method", 1),
+    **dict.fromkeys([(), ("_GPE",), ("_PR_",), ("_SB_",), ("_SI_",), ("_TZ_",)], ("Scope",)),
+    ("_GL_",): ("Mutex",), ("_OS_",): ("Name",), ("_REV",): ("Name",), ("_OSI",): ("Method", 1),
 }
 
 
@@ -32,22 +29,8 @@ def own_count(kind):
 
 def placed(scope, name):
     path = name.placed(scope)
-    if path is None:
-        raise Refused("AboveRoot")
+    require(path is not None, Refused, "AboveRoot")
     return path
-
-
-def uses_in(term):
-    """The names that stand as TermArgs in a term, but for those in the terms inside it."""
-    if not isinstance(term, Op):
-        return []
-    named = [part.name for kind, part in zip(term.row.parts, term.parts) if kind == "T" and isinstance(part, Named)]
-    within = [part for part in term.parts if isinstance(part, Op)]
-    if term.row.tail == "e":
-        within += term.tail
-    if term.row.tail == "f":
-        within += [unit[1] for unit in term.tail if unit[0] == "connection"]
-    return named + [name for part in within for name in uses_in(part)]
 
 
 class Loaded(namedtuple("Loaded", "codes trees space")):

@@ -1,5 +1,4 @@
-"""Makes up the AML of sets of tables: near the grammar of reading.py, most of it lawful, and most of it with names that lead
-somewhere."""
+"""Makes up the AML of sets of tables: near the grammar of reading.py, most of it lawful, its names mostly known."""
 
 from loading import PREDEFINED
 from reading import ALIAS, BUFFER, ELSE, EXTERNAL, FIELD_LISTS, IF, METHOD, MOST_LEVELS, ROWS, SCOPE, SCOPES, Name
@@ -18,10 +17,7 @@ DECLARATIONS = [opcode for opcode, row in ROWS.items() if row.group == "declarat
 IN_TABLES = DECLARATIONS + [METHOD] * 20 + [0x08] * 4 + [SCOPE, 0x5B82] * 3 + [IF]
 IN_DEEP_TABLES = [0x08, METHOD]
 STRANGE_SEGMENTS = ["AAAA", "BBBB", "_SB_", "DEV0", "_OSI"]
-LIKELY_BYTES = [
-    0x00, 0x01, 0xFF, 0x5B, 0x5C, 0x5E, 0x2E, 0x2F, 0x70, 0x10, 0x14, 0xA0, 0xA1, 0x11, 0x12, 0x60, 0x41, 0x15, 0x06, 0x08,
-    0x40, 0x50, 0x80, 0xC0,
-]
+LIKELY_BYTES = bytes.fromhex("00 01 FF 5B 5C 5E 2E 2F 70 10 14 A0 A1 11 12 60 41 15 06 08 40 50 80 C0")
 MOST_DEPTH = 6
 MOST_SEGMENTS = 255
 # What a package length of each width stays below, and the widest.

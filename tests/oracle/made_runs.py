@@ -22,17 +22,14 @@ class RunMaker(Maker):
 
     `space` has what stands where the code does, `is_sure` says whether what is declared there is, and `opened_is_sure` the
     same of what stands inside the path that was opened last. `opcode` is the term that is being made, `alias_source` where
-    an Alias' source leads; `in_declaration` says whether the term that runs is a declaration.
-    """
+    an Alias' source leads; `in_declaration` says whether the term that runs is a declaration."""
 
     def __init__(self, chance, gives=False, segments=0):
         super().__init__(chance, gives, segments)
-        self.space, self.is_sure, self.opened_is_sure = Namespace(), True, True
         self.opcode, self.alias_source, self.in_declaration = None, (), False
         if gives:
             self.given = {path: count for path, count in self.methods.items() if self.happens(0.4)}
-        for path, count in self.given.items():
-            self.space.give(path, count)
+        self.space, self.is_sure, self.opened_is_sure = Namespace(self.given.items()), True, True
 
     def tables(self):
         codes = super().tables()
@@ -204,8 +201,7 @@ class RunMaker(Maker):
     # ---- scenes
 
     def scene(self, depth):
-        """Terms that meet at few paths, as they load behind what stands so far, and methods that call what may stand
-        there."""
+        """Terms that meet at few paths, which load behind what stands so far, and methods that call these."""
         for _ in range(MOST_TRIES):
             maker, space = TermMaker(self.chance), copy.deepcopy(self.space)
             terms = self.chance.choice((maker.chained, maker.chained, maker.opened, maker.missed))
@@ -218,8 +214,7 @@ class RunMaker(Maker):
         return b""
 
     def caller(self, depth, paths):
-        """A method somewhere among these paths that calls what may stand at one of them, with one of the counts that
-        are told, now and then behind a local path."""
+        """A method among these paths that calls one with a count that is told, now and then behind a local path."""
         path = self.chance.choice(paths)
         name = Name(False, 0, [path[-1]]) if len(path) > MOST_SEGMENTS or self.happens(0.5) else self.root_name(path)
         method = (*self.chance.choice([self.scope, *paths, *(it[:-1] for it in paths)]), self.fresh_segment())

@@ -18,12 +18,9 @@ BAD_LINES = [
     "\\AAAA 2 ", "\\AAAA 2\r", "\\AAAA\t1", "\\AAA 2", "\\aaaa 1", "\\1AAA 1", "\\AAAA. 1", "\\.AAAA 1",
     "\\AAAA.BBB 1", "\\AAAABBBB 1", "\\AAAA..BBBB 1",
 ]
-# The files of the tables that list others
 LIST_FILES = ["xsdt.dat", "rsdt.dat"]
 
-
-# The contents of files by name, the options of a run over a folder of them, and the content of the file that
-# `--externals` names, where the run has this option
+# The contents of files by name, the options of a run over them, and the content of a file for `--externals`, if any
 Trial = namedtuple("Trial", "files options externals", defaults=[None])
 
 
@@ -60,8 +57,7 @@ def table_list(chance, name, entries):
     """The XSDT or RSDT of this name."""
     signature = name[:4].upper().encode()
     width = LISTS[signature]
-    content = b"".join((entry % (1 << 8 * width)).to_bytes(width, "little") for entry in entries)
-    return table(chance, signature, content)
+    return table(chance, signature, b"".join((entry % (1 << 8 * width)).to_bytes(width, "little") for entry in entries))
 
 
 def fadt(chance, dsdt):
@@ -113,8 +109,7 @@ class SetMaker(Chancy):
             data = bytearray(files[name])
             data[8 if data.startswith(ROOT) else 9] ^= self.chance.randrange(1, 256)
             files = {**files, name: bytes(data)}
-        options = self.options(not is_wrong)
-        return Trial(files, options, self.externals() if self.gives and self.happens(0.8) else None)
+        return Trial(files, self.options(not is_wrong), self.externals() if self.gives and self.happens(0.8) else None)
 
     def options(self, is_summed):
         """Flags by their shares. A wrong sum wants its flag more often, code outside methods its own nearly always."""
@@ -188,8 +183,7 @@ class SetMaker(Chancy):
 
     def stray_list(self, name):
         """An XSDT or RSDT that leads nowhere, now and then with a rest."""
-        entries = [self.chance.randrange(1 << 64) for _ in range(self.chance.randrange(4))]
-        made = table_list(self.chance, name, entries)
+        made = table_list(self.chance, name, [self.chance.randrange(1 << 64) for _ in range(self.chance.randrange(4))])
         return sealed(made + b"\0" * self.chance.randrange(1, 8)) if self.happens(0.05) else made
 
     def chained(self, files, blocks):

@@ -24,8 +24,7 @@ MOST_DEPTH = 3
 
 
 class Term(namedtuple("Term", "word names count inside", defaults=[(), 0, ()])):
-    """A term of a table: its names, of which it declares the last, the count of a method or an External, and the terms
-    or units inside."""
+    """A term: its names, of which it declares the last, the count of a method or an External, and what is inside."""
 
     def __str__(self):
         parts = [*map(str, self.names), *[str(self.count)] * (self.word in COUNTED)]
@@ -62,8 +61,7 @@ class TermMaker(Chancy):
         groups = self.groups(0, scope)
         if self.happens(0.5):
             place = self.chance.randrange(len(groups) + 1)
-            scene = self.chance.choice((self.chained, self.opened, self.missed))
-            groups[place:place] = [[term] for term in scene()]
+            groups[place:place] = [[term] for term in self.chance.choice((self.chained, self.opened, self.missed))()]
         return groups
 
     def tables(self):

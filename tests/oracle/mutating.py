@@ -23,8 +23,7 @@ Layout = namedtuple("Layout", "terms in_bodies packages")
 
 
 class Surveying:
-    """What a reader does that keeps in a `layout` where terms and packages stand. Its code is that of a table from the byte
-    `base` on."""
+    """A reader that keeps where terms and packages stand. Its code is that of a table from the byte `base` on."""
 
     def survey(self, layout, base=0):
         self.layout, self.base = layout, base

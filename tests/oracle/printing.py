@@ -66,25 +66,17 @@ def term_lines(term, body_of, level):
         yield indent + inline(term)
         return
     if term.opcode == METHOD:
-        flags = term.parts[1][1]
+        flags, body = term.parts[1][1], body_of(term)
         serialized = "Serialized" if flags & 8 else "NotSerialized"
         yield f"{indent}Method ({term.parts[0]}, {flags & 7}, {serialized}, {flags >> 4}) {{"
-        yield from body_lines(body_of(term), level + 1)
+        # The bytes of a body stand where it has no terms.
+        inside = [f"Raw {listed(hexadecimal(body.code))}"] if body.terms is None else body.terms
     else:
         yield f"{indent}{head(term)} {{"
-        for inner in term.tail:
-            is_unit = term.row.tail == "f"
-            yield from [f"{indent}  {unit_text(inner)}"] if is_unit else term_lines(inner, body_of, level + 1)
+        inside = map(unit_text, term.tail) if term.row.tail == "f" else term.tail
+    for inner in inside:
+        yield from [f"{indent}  {inner}"] if isinstance(inner, str) else term_lines(inner, body_of, level + 1)
     yield indent + "}"
-
-
-def body_lines(body, level):
-    """The terms of a body, or its bytes where it has none."""
-    if body.terms is None:
-        yield f"{'  ' * level}Raw {listed(hexadecimal(body.code))}"
-        return
-    for term in body.terms:
-        yield from term_lines(term, None, level)
 
 
 def row_text(path, kind, marks=()):
@@ -102,7 +94,6 @@ def namespace_lines(space):
 
 
 def block_lines(names, loaded, bodies):
-    """The definition blocks of tables from files of these names."""
     by_place = {(body.method.table, body.method.start): body for body in bodies}
     for table, (name, terms) in enumerate(zip(names, loaded.trees)):
         yield f"DefinitionBlock ({file_text(name)}) {{"

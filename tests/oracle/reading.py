@@ -1,7 +1,6 @@
 """AML read after docs/grammar.md, by a plain recursive reader that shares nothing with the program.
 
-It is slow and simple on purpose: what it prints is compared with what the program prints.
-"""
+It is slow and simple on purpose: what it prints is compared with what the program prints."""
 
 import pathlib
 import sys
@@ -14,8 +13,7 @@ sys.setrecursionlimit(20_000)
 
 
 class Refused(Exception):
-    """A fault: its name, the offset or the path that goes with it, and, where tables are loaded, the number of its
-    table, if it is about one."""
+    """A fault: its name, the offset or the path that goes with it, and the number of the table that it is about."""
 
     def __init__(self, name, at=None, path=None):
         super().__init__(name)
@@ -23,6 +21,12 @@ class Refused(Exception):
 
     def __str__(self):
         return self.name + (f" at {self.at}" if self.at is not None else "") + (f" {self.path}" if self.path else "")
+
+
+def require(holds, kind, *fault):
+    """Refuses what doesn't hold, with a fault of a kind."""
+    if not holds:
+        raise kind(*fault)
 
 
 # An opcode: its mnemonic, whether it has a package length, the kinds of its parts, the kind of its tail, its group
@@ -73,7 +77,6 @@ class Name(namedtuple("Name", "root ups segs")):
         return [] if path is None else [path]
 
 
-# A name with its arguments
 Named = namedtuple("Named", "name args")
 
 
@@ -93,7 +96,6 @@ class Op:
         return [part for part in self.parts if isinstance(part, Name)]
 
     def declared(self):
-        """The names that the term declares itself."""
         if self.opcode in KINDS or self.opcode in (METHOD, ALIAS):
             return self.names()[-1:]
         if self.opcode in FIELD_LISTS:
@@ -103,8 +105,7 @@ class Op:
 
 @dataclass
 class Reader:
-    """Reads one piece of code. A table's has no `arity`; a body's says how many arguments a name takes, by the paths that
-    the body declared so far."""
+    """Reads code. A body's `arity` says how many arguments a name takes, by the paths that it declared so far."""
 
     code: bytes
     arity: object = None
@@ -115,8 +116,12 @@ class Reader:
     def is_table(self):
         return self.arity is None
 
+    @property
+    def outermost(self):
+        return "module" if self.is_table else "body"
+
     def read(self):
-        return self.terms(0, len(self.code), "module" if self.is_table else "body", 1)
+        return self.terms(0, len(self.code), self.outermost, 1)
 
     def byte(self, at, end):
         if at >= end:
@@ -129,15 +134,13 @@ class Reader:
         more = lead >> 6
         if not more:
             return lead & 0x3F, 1
-        if lead & 0x30:
-            raise Refused("PkgBits", at)
+        require(not lead & 0x30, Refused, "PkgBits", at)
         return sum((self.byte(at + 1 + n, end) << (4 + 8 * n) for n in range(more)), lead & 0x0F), 1 + more
 
     def segment(self, at, end):
         for n in range(4):
             byte = self.byte(at + n, end)
-            if not (byte in LETTERS or n and 0x30 <= byte <= 0x39):
-                raise Refused("BadName", at + n)
+            require(byte in LETTERS or n and 0x30 <= byte <= 0x39, Refused, "BadName", at + n)
         return self.code[at:at + 4].decode()
 
     def name(self, at, end):
@@ -152,15 +155,12 @@ class Reader:
             count, at = 2, at + 1
         elif lead == 0x2F:
             count, at = self.byte(at + 1, end), at + 2
-            if not count:
-                raise Refused("BadName", at - 1)
-        segs = [self.segment(place, end) for place in range(at, at + 4 * count, 4)]
-        return Name(root, ups, segs), at + 4 * count
+            require(count, Refused, "BadName", at - 1)
+        return Name(root, ups, [self.segment(place, end) for place in range(at, at + 4 * count, 4)]), at + 4 * count
 
     def segmented(self, at, end):
         name, rest = self.name(at, end)
-        if not name.segs:
-            raise Refused("EmptyName", at)
+        require(name.segs, Refused, "EmptyName", at)
         return name, rest
 
     def terms(self, at, end, position, level):
@@ -173,20 +173,16 @@ class Reader:
 
     def term(self, at, end, position, level, behind_if=False):
         lead = self.byte(at, end)
-        if level > MOST_LEVELS:
-            raise Refused("TooDeep", at)
+        require(level <= MOST_LEVELS, Refused, "TooDeep", at)
         if lead in NAME_LEADS:
-            if position in ("module", "guard"):
-                raise Refused("ModuleCode", at)
+            require(position not in ("module", "guard"), Refused, "ModuleCode", at)
             return self.named(at, end, position, level)
         if position == "S" and lead == 0x00:
             return None, at + 1
         opcode, rest = (0x5B00 | self.byte(at + 1, end), at + 2) if lead == 0x5B else (lead, at + 1)
-        if opcode not in ROWS:
-            raise Refused("UnknownOp", at)
+        require(opcode in ROWS, Refused, "UnknownOp", at)
         fault = misplaced(opcode, position, behind_if)
-        if fault:
-            raise Refused(fault, at)
+        require(not fault, Refused, fault, at)
         return self.operation(at, opcode, rest, end, position, level)
 
     def named(self, at, end, position, level):
@@ -203,19 +199,17 @@ class Reader:
         if self.is_table:
             return 0
         count = self.arity(self.declared, name)
-        if count is None:
-            raise Refused("UnknownName", at)
+        require(count is not None, Refused, "UnknownName", at)
         return count
 
     def operation(self, start, opcode, at, end, position, level):
         row = ROWS[opcode]
         if row.packed:
             value, width = self.length(at, end)
-            if value < width or at + value > end:
-                raise Refused("PkgPast", at)
+            require(width <= value <= end - at, Refused, "PkgPast", at)
             at, end = at + width, at + value
-        if position == "module" and opcode == IF and self.byte(at, end) != 0x00:
-            raise Refused("ModuleCode", start)
+        if position == "module" and opcode == IF:
+            require(self.byte(at, end) == 0x00, Refused, "ModuleCode", start)
         parts = []
         for kind in row.parts:
             part, at = self.part(at, end, kind, opcode, len(parts), level)
@@ -235,9 +229,8 @@ class Reader:
         return term, end if row.tail else at
 
     def block(self, term, at, end, level):
-        """The terms inside a term."""
-        inside = "body" if not self.is_table else "guard" if term.opcode == IF else "module"
-        return self.terms(at, end, inside, level + 1)
+        is_guard = self.outermost == "module" and term.opcode == IF
+        return self.terms(at, end, "guard" if is_guard else self.outermost, level + 1)
 
     def leave(self, term):
         """Keeps what a term declares for those behind it."""
@@ -256,8 +249,7 @@ class Reader:
             return self.code[text:at], at + 1
         width = int(kind)
         value = sum(self.byte(at + n, end) << 8 * n for n in range(width))
-        if opcode == EXTERNAL and number == 2 and value > 7:
-            raise Refused("BadCount", at)
+        require(opcode != EXTERNAL or number != 2 or value <= 7, Refused, "BadCount", at)
         return (width, value), at + width
 
     def units(self, at, end, level):
@@ -284,11 +276,9 @@ class Reader:
     def link(self, at, end, level):
         lead = self.byte(at, end)
         if lead == BUFFER:
-            if level > MOST_LEVELS:
-                raise Refused("TooDeep", at)
+            require(level <= MOST_LEVELS, Refused, "TooDeep", at)
             return self.operation(at, BUFFER, at + 1, end, "T", level)
-        if lead != 0x00 and lead not in NAME_LEADS:
-            raise Refused("BadName", at)
+        require(lead == 0x00 or lead in NAME_LEADS, Refused, "BadName", at)
         name, at = self.segmented(at, end)
         return Named(name, []), at
 

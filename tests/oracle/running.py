@@ -3,15 +3,13 @@
 
     python3 tests/oracle/running.py [OPTION..] FOLDER
 
-It prints what acpidis has to print, by the independent reading, and ends with the same status. Each OPTION is one of
-acpidis.
-"""
+It prints what acpidis has to print, by the independent reading, and ends with the same status, with its options."""
 
 import pathlib
 import sys
 from collections import namedtuple
 
-from trying import asked
+from trying import Outcome, asked
 from any_run import load
 from dumps import Bad, aml_of, dump_lines, order_of
 from folders import Unreadable, read_externals, read_folder
@@ -20,7 +18,6 @@ from printing import block_lines, file_text, namespace_lines
 from reading import Refused
 
 DONE, REFUSED, RAW = 0, 1, 3
-
 
 # The options with a value, of which type, and those without, each with its share of the made-up sets: 0 is none, 1 all.
 VALUES = {"workers": int, "externals": str}
@@ -32,15 +29,8 @@ class Options(namedtuple("Options", [*VALUES, *FLAGS], defaults=[None] * len(VAL
 
     def words(self):
         """The options as words of the command line, those with a value first."""
-        words = []
-        for name, value in self._asdict().items():
-            if value:
-                words += ["--" + name.replace("_", "-"), *([str(value)] if name in VALUES else [])]
-        return words
-
-
-# The status of a run, None where it has none, and what it writes to standard output and to standard error
-Outcome = namedtuple("Outcome", "status out err")
+        given = {"--" + name.replace("_", "-"): value for name, value in self._asdict().items() if value}
+        return [word for option, value in given.items() for word in [option, *[str(value)] * (value is not True)]]
 
 
 def text_of(lines):
@@ -60,17 +50,13 @@ def run_folder(folder, options):
 
 
 def run(dumps, options, given=()):
-    """How a run over dumps ends, with counts for paths that no table says anything of.
-
-    The number of workers makes no difference.
-    """
+    """How a run over dumps ends, by any number of workers, with counts for paths that no table says anything of."""
     try:
         order = order_of(dumps, options.any_sum)
+        codes = [aml_of(dumps[index].data) for index in order]
+        loaded = load(codes, given, options.any_run, options.unknown_zero)
     except Bad as bad:
         return refused_dump(dumps, bad.dump, bad)
-    codes = [aml_of(dumps[index].data) for index in order]
-    try:
-        loaded = load(codes, given, options.any_run, options.unknown_zero)
     except Refused as fault:
         return refused_dump(dumps, None if fault.table is None else order[fault.table], fault)
     bodies = loaded.bodies(options.unknown_zero)

@@ -1,20 +1,18 @@
 #!/usr/bin/env python3
-"""Tries the promise of --any-run on made-up declarations: where what stands surely or maybe tells a name's count, each run
-that finds the name has this count; and where it tells none, of kinds that are no Alias, two runs differ.
+"""Tries the promise of --any-run on made-up declarations: where what stands surely or maybe tells a name's count, each
+run that finds the name has this count; and where it tells none, of kinds that are no Alias, two runs differ.
 
     python3 tests/oracle/runs_agree.py [--lists N] [--seed N]
 
-A run is a selection of the declarations that keeps the sure ones; all are tried. Of a path the first that is kept counts.
-An open Alias is kept with any target.
-The last line is 'N passed, N failed', by the lists; 150 names are asked of each.
-"""
+A run is a selection of the declarations that keeps the sure ones; all are tried. Of a path the first that is kept
+counts. An open Alias is kept with any target. What is counted are the lists; 150 names are asked of each."""
 
 import itertools
 import random
 
 from trying import asked
 from any_run import Namespace, agreed
-from loading import PREDEFINED, own_count, path_text
+from loading import PREDEFINED, own_count
 from reading import Name
 from tally import Tally
 
@@ -51,18 +49,14 @@ def space_of(declarations, externals):
 
 
 def runs_of(declarations):
-    """All runs, each with the kinds of its paths: it keeps a declaration as one of some kinds, or leaves an unsure one
-    out."""
+    """All runs, each with the kinds of its paths: of a declaration one of some kinds, or none of an unsure one."""
     kept = []
     for _, kind, is_sure in declarations:
         aims = [("Alias", path) for path in PATHS] if kind[2:] == IS_OPEN else [kind[:2]]
         kept.append(aims if is_sure else [None, *aims])
     for kinds in itertools.product(*kept):
-        run = {}
-        for (path, _, _), kind in zip(declarations, kinds):
-            if kind:
-                run.setdefault(path, kind)
-        yield run
+        # The first of a path counts.
+        yield {path: kind for (path, _, _), kind in reversed([*zip(declarations, kinds)]) if kind}
 
 
 def kind_at(run, path):
@@ -91,14 +85,6 @@ def holds(space, runs, scope, name, local):
     return not met or any(kind[0] == "Alias" for kind in kinds) or len(counts) > 1
 
 
-def fails_of(declarations, externals):
-    """The names of which the promise doesn't hold."""
-    space, runs = space_of(declarations, externals), list(runs_of(declarations))
-    for scope, name, local in itertools.product(SCOPES, NAMES, LOCALS):
-        if not holds(space, runs, scope, name, local):
-            yield f"{path_text(scope)}: {name}, with locals {local}, of {declarations}, {externals}"
-
-
 def main():
     words, checks = asked(__doc__, lists=200, seed=0), Tally()
     chance = random.Random(words.seed)
@@ -106,8 +92,9 @@ def main():
         declarations = made_declarations(chance)
         # What Externals say of some paths
         counts = [(chance.choice(PATHS), chance.randrange(3)) for _ in range(chance.choice((0, 0, 1, 3)))]
-        fail = next(fails_of(declarations, counts), None)
-        checks.is_so(fail, not fail)
+        space, runs = space_of(declarations, counts), list(runs_of(declarations))
+        fail = next((it for it in itertools.product(SCOPES, NAMES, LOCALS) if not holds(space, runs, *it)), None)
+        checks.is_so(f"scope, name and locals {fail}, of {declarations}, {counts}", not fail)
     checks.end()
 
 

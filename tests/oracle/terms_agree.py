@@ -10,11 +10,10 @@ terms run, up to all, or none.
 
 Behind the terms stand methods that ask: in the body of each a name, now and then behind a local path, and seven
 values, so that the text tells how many of them the name takes. This count it has in each run that finds something for
-it. Besides, what a run declares stands in the namespace, and what is no Maybe there stands in each run. With --read
-the independent reading is tried in place of the program. What is counted are the counts of names in runs. The last
-line is 'N passed, N failed'.
-"""
+it. Besides, what a run declares stands in the namespace, and what is no Maybe there stands in each run. What is
+counted are the counts of names in runs."""
 
+import functools
 import itertools
 import random
 import re
@@ -24,7 +23,8 @@ from trying import asked, built, end
 from compare import laid, run_program
 from loading import PREDEFINED, path_text
 from runs_agree import found_count, kind_at
-from made_code import package_length, shortest
+from made_aml import method, tables
+from made_code import shortest
 from made_sets import Trial, table
 from made_terms import BLOCKS, DEVICES, RARE_SEGMENTS, SEGMENTS, TermMaker
 from made_terms import code_of, root_name, text_of
@@ -98,25 +98,18 @@ class Question(namedtuple("Question", "method name local")):
         local = f" behind the local {path_text(self.local)}" if self.local else ""
         return f"{self.name} in {path_text(self.method)}{local}"
 
-    def candidates(self):
-        return self.name.candidates(self.method)
-
     def local_code(self):
         return b"\x08" + shortest(root_name(self.local)) + b"\0" if self.local else b""
 
     def code(self):
-        content = shortest(root_name(self.method)) + b"\0" + self.local_code() + shortest(self.name) + b"\1" * VALUES
-        return b"\x14" + package_length(len(content), 1) + content
+        asking = self.local_code() + shortest(self.name) + b"\1" * VALUES
+        return method(shortest(root_name(self.method)), 0, asking, width=1)
 
     def lines(self, count):
         """The lines of the body where the name takes so many arguments."""
         local = [f"Name ({path_text(self.local)}, Zero)"] if self.local else []
         taken = f" ({', '.join(['One'] * count)})" if count else ""
         return [*local, f"{self.name}{taken}", *["One"] * (VALUES - count)]
-
-    def fault(self):
-        """What is said of the body where nobody knows what the name takes."""
-        return f"acpidis: body {path_text(self.method)}: UnknownName at {len(self.local_code())}"
 
 
 def questions_of(chance, runs):
@@ -135,8 +128,7 @@ class Wrong(Exception):
 
 
 class Told:
-    """What a text tells: the rows of its namespace, each a path with whether it is sure, and how many arguments names
-    take."""
+    """What a text tells: the paths of its namespace, with whether each is sure, and how many arguments names take."""
 
     def __init__(self, outcome, questions):
         rows = ROW.findall(outcome.out.partition("\nNamespace ")[2].partition("\nDefinitionBlock ")[0])
@@ -150,18 +142,20 @@ class Told:
     def told(self, question):
         """How many arguments a name takes, if anybody knows that by the kinds that may stand at its candidates."""
         lines = self.bodies.get(path_text(question.method), [])
-        if "".join(lines).startswith("Raw ") and question.fault() in self.errors:
+        unknown = f"acpidis: body {path_text(question.method)}: UnknownName at {len(question.local_code())}"
+        if "".join(lines).startswith("Raw ") and unknown in self.errors:
             return None
         counts = [count for count in range(VALUES + 1) if lines == question.lines(count)]
         if not counts:
             raise Wrong(f"{question}: the body is {lines}")
         declared = {question.local, *self.rows, *PREDEFINED}
-        return counts[0] if declared.intersection(question.candidates()) else None
+        return counts[0] if declared.intersection(question.name.candidates(question.method)) else None
 
     def compared(self, run, questions):
         """Of each count in a run None where it is told so, else what is wrong; and what is wrong with the rows."""
         for question in questions:
-            told, count = self.counts[question.method], found_count(run, question.candidates(), {question.local})
+            candidates = question.name.candidates(question.method)
+            told, count = self.counts[question.method], found_count(run, candidates, {question.local})
             if told is not None and count is not None:
                 yield None if told == count else f"{question} takes {told}, but {count}"
         yield from (f"{path_text(path)} is in no row, but" for path in run if path not in self.rows)
@@ -169,37 +163,26 @@ class Told:
         yield from (f"{path_text(path)} is sure, but not" for path in missing)
 
 
-def told_by(outcome, questions):
-    """What a run tells; None where it refuses the tables as it may."""
-    if outcome.status in (DONE, RAW):
-        return Told(outcome, questions)
-    fault = outcome.err.strip().rpartition(": ")[2].partition(" ")[0]
-    if outcome.status == REFUSED and fault in LAWFUL_FAULTS:
-        return None
-    raise Wrong(f"status {outcome.status}, {outcome.err.strip()}")
-
-
-def outcome_of(program, chance, codes):
-    """How a program, or the independent reading where there is none, ends over the AML of tables."""
-    names = ["dsdt.dat", *(f"ssdt{number}.dat" for number in range(1, len(codes)))]
-    files = {name: table(chance, name[:4].upper().encode(), code) for name, code in zip(names, codes)}
-    with laid(Trial(files, Options(any_run=True))) as (folder, options):
-        return run_program(program, folder, options) if program else run_folder(folder, options)
-
-
-def compared(program, chance, tables):
-    """Of each count in a run, with that run, None where it is told so, else what is wrong. None where there are too
-    many runs."""
-    runs = behind_all([{}], (), itertools.chain.from_iterable(tables))
+def compared(program, chance, terms):
+    """Of each count in a run, with that run, None or what is wrong. None in all where there are too many runs."""
+    runs = behind_all([{}], (), itertools.chain.from_iterable(terms))
     if len(runs) > MOST_RUNS:
         return None
     questions = list(questions_of(chance, runs))
-    outcome = outcome_of(program, chance, [*map(code_of, tables), code_of(questions)])
+    files = tables(*map(code_of, terms), code_of(questions), make=functools.partial(table, chance))
+    with laid(Trial(files, Options(any_run=True))) as laid_out:
+        # The independent reading, where there is no program
+        outcome = run_program(program, *laid_out) if program else run_folder(*laid_out)
+    fault = outcome.err.strip().rpartition(": ")[2].partition(" ")[0]
+    if outcome.status == REFUSED and fault in LAWFUL_FAULTS:
+        return []
+    if outcome.status not in (DONE, RAW):
+        return [(None, f"status {outcome.status}, {outcome.err.strip()}")]
     try:
-        told = told_by(outcome, questions)
-        return [(run, it) for run in runs for it in told.compared(run, questions)] if told else []
+        told = Told(outcome, questions)
     except Wrong as wrong:
         return [(None, str(wrong))]
+    return [(run, it) for run in runs for it in told.compared(run, questions)]
 
 
 def main():
@@ -223,5 +206,4 @@ def main():
     end(passed, failed)
 
 
-if __name__ == "__main__":
-    main()
+main()
