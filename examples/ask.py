@@ -26,7 +26,8 @@ def shown(value):
 def main():
     asked = command.parser(__doc__, "FACTS", "SQL").parse_args()
     sql = sys.stdin.read() if asked.sql == "-" else asked.sql
-    listing.opened(asked.facts).close()  # SQLite's fault wouldn't name it
+    listing.check_file(asked.facts)
+    open(asked.facts, "rb").close()  # SQLite's fault wouldn't name it
     try:
         connection = sqlite3.connect(pathlib.Path(asked.facts).absolute().as_uri() + "?mode=ro", uri=True)
         rows = connection.execute(sql)

@@ -28,13 +28,11 @@ from acpidis_tools import command
 from acpidis_tools.asl import forms, language
 from acpidis_tools.asl.blocks import Block, Reader
 from acpidis_tools.asl.names import said_by
-from acpidis_tools.listing import NoListing
+from acpidis_tools.listing import NoListing, path_of, path_text
 
 TOLD = 3
 # What all blocks together have no more Externals than, of what they don't use.
 MOST_EXTERNALS = 200_000
-
-
 # A text that is to be written: the table that it is of, its lines, and what ASL can't spell
 Made = namedtuple("Made", "table lines told")
 
@@ -45,17 +43,18 @@ def of_listing(asked):
     reader.read(asked.listing)
     found = reader.blocks
     if asked.method:
-        found = [method for block in reader.blocks for method in block.methods_at(asked.method)]
-        check_method(asked.method, found, reader.rows)
+        found = [method for block in reader.blocks for method in block.methods_at(path_of(asked.method))]
+        check_method(asked.method, found, reader)
     rows = reader.rows if len(reader.rows) * len(found) <= MOST_EXTERNALS else []
     said = said_by(reader.blocks)
     return reader.blocks, [Made(it.table, it.text(rows, said), it.told) for it in found]
 
 
-def check_method(path, found, rows):
+def check_method(path, found, reader):
     """Refuses a path at which not just one method with terms is found."""
     if not found:
-        ends = [row.path() for row in rows if isinstance(row.kind, int) and row.path().endswith("." + path[1:])]
+        methods = (path_text(row) for row in reader.rows if isinstance(reader.space.kinds[row], int))
+        ends = [row for row in methods if row.endswith("." + path[1:])]
         where = f": name it from the root, as {ends[0]}; acpidis-show has all that end so" if ends else ""
         raise NoListing(f"it declares no method {path}{where}")
     if len(found) > 1:

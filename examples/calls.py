@@ -17,9 +17,9 @@ at fault.
 import re
 import sys
 
-from acpidis_tools import aml, command, running
-from acpidis_tools.listing import NAME
-from acpidis_tools.terms import places, terms_in
+from acpidis_tools import command, running
+from acpidis_tools.listing import NAME, path_of, path_text
+from acpidis_tools.terms import Term, places, terms_in
 
 SHOWN = 100
 # The operators that may take a method, and none of its values.
@@ -44,7 +44,7 @@ def calls(text):
         for operator, name in ((place.within.word, term.word) for term, place in found if place.kind == "S"):
             counts = [kind for kind in space.may_be(line.scope, name, own) if isinstance(kind, int)]
             if any(counts) and (operator not in OF_METHODS or behind and running.is_lone(behind, space)):
-                yield line.scope.path(), name, max(counts), operator, line.bare
+                yield path_text(line.scope), name, max(counts), operator, line.bare
         declared = DECLARED.match(line.bare) if line.method else None
         if declared:
             own.add(space.place(line.scope, next(filter(None, declared.groups()))))
@@ -58,16 +58,15 @@ def listing_of(asked):
     for line in run.listing.lines:
         form = EXTERNAL.fullmatch(line.bare)
         if form:
-            node = namespace.place(line.scope, form[1])
-            node.count = max(aml.SMALL[form[2]] if form[2] in aml.SMALL else int(form[2], 16), node.count or 0)
+            path, count = namespace.place(line.scope, form[1]), Term(form[2], 0).number
+            namespace.counts[path] = max(count, namespace.counts.get(path, 0))
     file = asked.options.get("--externals")
     for number, line in enumerate(command.read(file).decode("ascii").splitlines() if file else (), 1):
         form = COUNT.fullmatch(line)
         if not form or not NAME.fullmatch(form[1]):
             raise running.Unusable(f"line {number} of {file} isn't a path and a count")
-        node = namespace.node(form[1])
-        if node.count is None:  # what a table's External names has the External's count
-            node.count = int(form[2])
+        # What a table's External names has the External's count.
+        namespace.counts.setdefault(path_of(form[1]), int(form[2]))
     return run
 
 

@@ -46,6 +46,11 @@ unpack() {
         find "$1/set" -type f -exec chmod 644 {} +
 }
 
+fail() {
+    echo "$*" >&2
+    exit 2
+}
+
 case ${1-} in
 --one)
     one "$2"
@@ -56,22 +61,11 @@ case ${1-} in
     exit
     ;;
 esac
-if [ $# -lt 2 ] || [ $# -gt 3 ]; then
-    echo "usage: ${0##*/} HOSTS SETS [JOBS]" >&2
-    exit 2
-fi
-if [ ! -r "$1" ] || [ -d "$1" ]; then
-    echo "acpidis-collect: cannot read $1" >&2
-    exit 2
-fi
+if [ $# -lt 2 ] || [ $# -gt 3 ]; then fail "usage: ${0##*/} HOSTS SETS [JOBS]"; fi
+if [ ! -r "$1" ] || [ -d "$1" ]; then fail "acpidis-collect: cannot read $1"; fi
 case $1 in
 /dev/* | /proc/*) ;;
-*)
-    if [ -p "$1" ]; then
-        echo "acpidis-collect: $1 is a pipe, which may never end" >&2
-        exit 2
-    fi
-    ;;
+*) [ ! -p "$1" ] || fail "acpidis-collect: $1 is a pipe, which may never end" ;;
 esac
 mkdir -p -- "$2" || exit 1
 SETS=$2

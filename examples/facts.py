@@ -35,7 +35,7 @@ from functools import partial
 from acpidis_tools import command
 from acpidis_tools.collecting import Collector, record_rows, table_rows
 from acpidis_tools.errors import read_errors
-from acpidis_tools.listing import NoListing, file_name, read_dumps, read_file, read_listing
+from acpidis_tools.listing import BLOCK, NoListing, file_name, read_file, read_listing, reader_of
 from acpidis_tools.names import Names
 from acpidis_tools.schema import COLUMNS, INDEXES, OF_CODE, SCHEMA, shifted
 
@@ -64,7 +64,9 @@ class Machine:
                 raise NoListing(f"refused: {line[9:]}" if line.startswith("acpidis: ") else "it is empty")
             if self.text.count(b"\n") > MOST_LINES:
                 raise NoListing(f"it has more than {MOST_LINES:,} lines")
-            found, files, self.above = read_dumps(self.text)
+            reader = reader_of(self.text)
+            found, self.above = reader.dumps(), reader.at
+            files = [form[1] for form in map(BLOCK.fullmatch, reader.lines[reader.at :]) if form]
             # The sums of the dumps by the names of files as the listing has them
             there = [(dump.file, file_of(dumps, dump.file)) for dump in found] if dumps else []
             sums = {name: hashlib.sha256(file.read_bytes()).hexdigest() for name, file in there if file}
@@ -75,7 +77,6 @@ class Machine:
             self.fault = NO_MEMORY
 
     def read(self) -> tuple[bytes, bytes]:
-        """Its listing and its standard error."""
         text, errors = self.files
         return read_file(str(text), MOST_BYTES), read_file(str(errors), MOST_BYTES) if errors else b""
 
@@ -102,8 +103,7 @@ def said(fault: Exception) -> str:
 
 
 def sum_of(text: bytes, errors: bytes) -> str:
-    """A sum of what a listing says of the tables' code: all but the lines of the dumps, which differ from machine to
-    machine."""
+    """A sum of what a listing says of the tables' code: all but the lines of the dumps, which machines don't share."""
     form = BLOCKS.search(text)
     return hashlib.sha256((text[form.start():] if form else text) + b"\0" + errors).hexdigest()[:32]
 
@@ -215,8 +215,7 @@ def machines_of(asked: argparse.Namespace) -> Iterator[Machine]:
 
 
 class Processes:
-    """Processes that read listings; for one job there is none. Where one is ended, all are, and new ones take their
-    place."""
+    """Processes that read listings; for one job there is none. Where one is ended, new ones take the place of all."""
 
     def __init__(self, jobs: int):
         self.jobs, self.pool = jobs, ProcessPoolExecutor(jobs)

@@ -24,8 +24,7 @@ from functools import partial
 
 from acpidis_tools import command, listing, running
 from acpidis_tools.errors import name_at
-from acpidis_tools.listing import path_of, path_text
-from acpidis_tools.paths import Name
+from acpidis_tools.listing import Name, path_text
 
 COUNTS = range(8)
 MOST_NAMES = 1000
@@ -42,7 +41,7 @@ def name_of(body):
     if text is None:
         raise running.Unusable(f"no name stands at {at} of a body that wants one: is this another version of acpidis?")
     name = Name.of(text)
-    place = name.segments if name.is_searched else name.placed(path_of(body.node.path()))
+    place = name.segments if name.is_searched else name.placed(body.path)
     return None if place is None else path_text(place)
 
 
@@ -53,8 +52,8 @@ class Trial:
     def __init__(self, run, bodies):
         now = [] if run.refused else [run.listing.methods[body.number] for body in bodies]
         self.refused, self.faults = run.refused, [body.fault for body in now if body.fault]
-        read = [body.lines for body in now if not body.fault] if bodies or run.refused else [None]
-        values = [run.listing.lone_values(lines) for lines in read]
+        read = [body.lines for body in now if not body.fault] if bodies or run.refused else [run.listing.outside]
+        values = [sum(running.is_lone(line, run.listing.namespace) for line in lines) for lines in read]
         # What is read, without and with values that stand alone
         self.read, self.loose = values.count(0), len(values) - values.count(0)
         self.rank = bool(run.refused), len(self.faults), sum(values)
@@ -118,8 +117,7 @@ class Search:
             if len(self.counts) + len(found) > MOST_NAMES:
                 raise running.Unusable(f"more than {MOST_NAMES} names are missing: a table is, more likely")
             if not run.refused and "--any-run" in self.options:
-                outside = [line for line in run.listing.lines if line.method is None]
-                self.outside = {segment for line in outside for segment in SEGMENT.findall(line.bare)}
+                self.outside = {it for line in run.listing.outside for it in SEGMENT.findall(line.bare)}
             self.waiting.update(found)
             self.rounds.append(sorted(found, key=lambda name: -len(found[name])))
             # What stands behind may be unknown still, and is taken to have no arguments meanwhile.
@@ -178,7 +176,6 @@ def number_of(count, verb):
 
 
 def outcome(trial, is_outside):
-    """A trial in words."""
     if trial.refused:
         return f"the set is refused: {trial.refused}"
     if is_outside:
@@ -196,7 +193,7 @@ def say(text):
 
 def report(name, bodies, trials):
     waiting = "1 body waits" if len(bodies) == 1 else f"{len(bodies)} bodies wait"
-    first = f"{waiting}, the first {bodies[0].node.path()} at {bodies[0].fault.at or 0}" if bodies else ""
+    first = f"{waiting}, the first {path_text(bodies[0].path)} at {bodies[0].fault.at or 0}" if bodies else ""
     say(f"{name}: {first or 'it stands outside the methods'}")
     said = {}
     for count in COUNTS:
@@ -241,7 +238,7 @@ def main():
         search.progress.end()
     show(search, all_trials, asked.must_be_one)
     for body in left:  # those that no count mends
-        say(f"{body.node.path()} stays raw: {body.fault}")
+        say(f"{path_text(body.path)} stays raw: {body.fault}")
 
 
 if __name__ == "__main__":

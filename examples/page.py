@@ -15,33 +15,25 @@ Status 1 is a text that is no listing, or one that is too large; 2 a command lin
 read or written.
 """
 
-from __future__ import annotations
-
 import argparse
 import pathlib
 import sys
-from collections.abc import Callable
-from typing import TypeVar
 
 from acpidis_tools import command
 from acpidis_tools.comparison import compare
 from acpidis_tools.errors import read_errors
-from acpidis_tools.listing import NoListing, read_file
+from acpidis_tools.listing import read_file
 from acpidis_tools.page.markup import page
 from acpidis_tools.page.sheet import Sheet
 
 # A browser opens the page of the first in some seconds. The second can be read, for a part of it.
 MOST_BYTES, MOST_TO_READ = 20_000_000, 256_000_000
-Made = TypeVar("Made")
+NO_LISTING = " is no listing for a page"
 
 
-def of_file(file: str, make: Callable[[bytes], Made], most: int, what: str = "is no listing for a page") -> Made:
-    """What is made of a file's text. A fault names the file that it is about."""
+def text_of(file: str, most: int) -> bytes:
     way = "; --only makes one of a path or of a file alone" if most < MOST_TO_READ else ""
-    try:
-        return make(read_file(file, most, f", which are too many for one page{way}"))
-    except NoListing as fault:
-        command.refuse(f"{file!r} {what}: {fault}")
+    return read_file(file, most, f", which are too many for one page{way}")
 
 
 def name_of(file: str) -> str:
@@ -50,22 +42,18 @@ def name_of(file: str) -> str:
 
 
 def sheet_of(asked: argparse.Namespace) -> Sheet:
-    """What the page is made of."""
     most = MOST_TO_READ if asked.only else MOST_BYTES
-
-    def make(text: bytes) -> Sheet:
-        sheet = Sheet.of(text)
+    with command.reading(asked.listing, NO_LISTING):
+        sheet = Sheet.of(text_of(asked.listing, most))
         if asked.only:
             sheet.only(asked.only)
-        return sheet
-
-    sheet = of_file(asked.listing, make, most)
     sheet.name = asked.name or name_of(asked.listing)
     if asked.errors:
-        what = "isn't the standard error of this listing"
-        sheet.faults = of_file(asked.errors, lambda text: read_errors(text, sheet.listing), MOST_BYTES, what)
+        with command.reading(asked.errors, " isn't the standard error of this listing"):
+            sheet.faults = read_errors(text_of(asked.errors, MOST_BYTES), sheet.listing)
     if asked.compare:
-        other = of_file(asked.compare, Sheet.of, most)
+        with command.reading(asked.compare, NO_LISTING):
+            other = Sheet.of(text_of(asked.compare, most))
         sheet.comparison = compare(sheet.decoder, other.decoder, name_of(asked.compare))
     return sheet
 

@@ -42,10 +42,7 @@ def read_words(text):
 
 WAYS, WORDS, RAN = read_words((pathlib.Path(command.__file__).parent / "refusals.txt").read_text())
 # What is said of a byte of a table's AML.
-AT_BYTES = {
-    "ModuleCode", "Truncated", "PkgPast", "PkgBits", "BadName", "UnknownOp", "NotHere", "StrayElse", "EmptyName",
-    "BadCount", "TooDeep",
-}  # fmt: skip
+AT_BYTES = "ModuleCode Truncated PkgPast PkgBits BadName UnknownOp NotHere StrayElse EmptyName BadCount TooDeep".split()
 
 
 class Refusal:
@@ -174,7 +171,8 @@ class Tables:
                 at, count = ahead[use.name.segments[-1]]
                 method = f"a Method of {counted(count, 'argument')} may stand at offset {at}"
                 yield f"  nothing tells of {use.name} before it; {method}"
-                place = self.space.given_place(use.scope, use.name)
+                # From outside a name that is looked for above is told by its path below the root.
+                place = self.space.place(self.space.root if use.name.is_searched else use.scope, use.name)
                 path = path_of(place) if place else "?"
                 yield f"  a line `{path} {count}` in the file of --externals would tell it"
 

@@ -11,8 +11,6 @@ Status 1 is a text that is no listing, or that declares no such path: then an Ex
 it; 2 is a command line that is at fault, or a file that can't be read or written.
 """
 
-from __future__ import annotations
-
 import difflib
 from collections.abc import Iterator
 

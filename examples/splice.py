@@ -24,8 +24,6 @@ HEADER, SUM, OEM_REVISION = aml.HEADER, 9, 24
 # The terms with a scope of their own, so that names inside mean the same wherever they stand.
 SCOPED = aml.OPENERS | {"Method"}
 ARCHIVE = "kernel/firmware/acpi"
-
-
 # Where a path is declared: the term's word, the byte behind its name, and the one behind it; the path of the scope that
 # it stands in, and the package lengths around it, the outer first, with its own where it has one
 Place = namedtuple("Place", "word named end scope lengths")
@@ -55,7 +53,6 @@ class Reader(aml.Reader):
 
 
 def code_of(dump, file):
-    """The AML of a dump."""
     length = int.from_bytes(dump[4:8], "little")
     if len(dump) < HEADER or not HEADER <= length <= len(dump):
         raise Refused(f"{file!r} is no table")

@@ -223,10 +223,8 @@ case ${1-} in
     exit
     ;;
 --left | --one)
-    mode=$1
-    shift
-    [ $# -ge 2 ] || fail "$mode needs more words"
-    if [ "$mode" = --left ]; then left "$1" "$2"; else ones "$@"; fi
+    [ $# -ge 3 ] || fail "$1 needs more words"
+    if [ "$1" = --left ]; then left "$2" "$3"; else ones "${@:2}"; fi
     exit
     ;;
 esac

@@ -28,8 +28,6 @@ HEADER, ROOT, ROOT_LENGTH, WIDTH = 36, b"RSD PTR ", 20, 16
 # A header as tables in images have them: a signature, a length, a revision, and names of printable bytes.
 HEAD = re.compile(rb"(?=([A-Z][A-Z0-9]{3}|[A-Z0-9]{3}!).{4}[\0-\x20].[ -~\0]{6}[ -~\0]{8}.{4}[ -~\0]{4})", re.DOTALL)
 SIGNATURE = re.compile(rb"[A-Z0-9_!]{4}")
-
-
 # A table of the file: its bytes, its signature, and its address, 0 where none is known
 Table = namedtuple("Table", "data signature address")
 
@@ -44,7 +42,6 @@ def little(data, at, width):
 
 
 def length_of(data):
-    """The length that a table says it has."""
     if data.startswith(ROOT):
         return little(data, ROOT_LENGTH, 4) if len(data) > 15 and data[15] >= 2 else ROOT_LENGTH
     return little(data, 4, 4)

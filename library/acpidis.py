@@ -156,11 +156,9 @@ class Open:
         return status.value, self.copy("text", text.value), lines
 
     def copy(self, name: str, count: int) -> str:
-        """A text."""
         return str(self.room(name, count, 1), "ascii")
 
     def values(self, name: str, count: int, form: str) -> Iterator[Tuple[int, ...]]:
-        """Values of a form."""
         return struct.iter_unpack(form, self.room(name, count, struct.calcsize(form)))
 
     def room(self, name: str, count: int, size: int) -> memoryview:

@@ -1,17 +1,15 @@
 """Reads the AML of tables from the left, as far as it can: for the scripts beside this file.
 
 A name has the arguments that the tables told so far, and none where they told nothing. What comes is for looking at;
-what tables mean the program alone says. Each byte is read once, and the search for names has a bound: the cost grows as
-the bytes.
+what tables mean the program alone says. The cost grows as the bytes, each read once: the search for names has a bound.
 """
 
-import pathlib
 import re
 import sys
 from collections import namedtuple
 
-from acpidis_tools import paths, standard
-from acpidis_tools.paths import Name
+from acpidis_tools import standard
+from acpidis_tools.listing import OPCODES, Name, path_of, path_text
 
 HEADER, MOST_LEVELS = 36, 512
 # A level of terms is a few calls deep.
@@ -28,8 +26,7 @@ KEPT_PLACES = 2
 TEXT_LENGTH, TEXT_LINES = 160, 8
 
 # The groups of opcodes.txt, the last of which declare; each opcode with its mnemonic and the letters of its kinds
-TEXTS = (pathlib.Path(__file__).parent / "opcodes.txt").read_text().split("\n\n")[1:]
-GROUPS = [list(map(str.split, text.splitlines()[1:])) for text in TEXTS]
+GROUPS = [list(map(str.split, text.splitlines()[1:])) for text in OPCODES.split("\n\n")[1:]]
 ROWS = {int(opcode, 16): (word, "".join(kinds)) for group in GROUPS for opcode, word, *kinds in group}
 # The kinds of each mnemonic's parts, without the letters of what has a length.
 PARTS = {word: kinds.lstrip("P").rstrip("tyefb") for word, kinds in ROWS.values()}
@@ -41,6 +38,8 @@ DECLARERS = {word for _, word, *_ in GROUPS[-1]} - FIELD_LISTS - {"Scope", "Exte
 # Those that have other names too, before the one that they declare.
 NAMED_LAST = {"Alias"} | {word for word in DECLARERS if word.startswith("Create")}
 CONSTANTS = {"Byte", "Word", "Dword", "Qword", "Text"}
+# A name where a value is wanted: its term, the scope, the count that is known there, and the terms around it
+Use = namedtuple("Use", "term name scope read around")
 
 
 class Stopped(Exception):
@@ -66,35 +65,82 @@ class Term:
 # ---- the namespace
 
 
-class Node(paths.Node):
-    """A path: what declares it, each a table, an offset and a mnemonic; how many arguments it takes, if it is known."""
+class Node:
+    """A path: what declares it, as tables, offsets and mnemonics; and how many arguments it takes, if it is known."""
 
-    __slots__ = ("places", "is_predefined", "count", "external", "given", "target")
+    __slots__ = ("above", "segment", "below", "places", "is_predefined", "count", "external", "given", "target")
 
     def __init__(self, above, segment):
-        super().__init__(above, segment)
-        self.is_predefined, self.count, self.places = False, 0, ()
-        self.external = self.given = self.target = None
+        self.above, self.segment, self.is_predefined, self.count, self.places = above, segment, False, 0, ()
+        self.below = self.external = self.given = self.target = None
+
+    def at(self, segments):
+        """The node of some segments below it, made where it isn't there."""
+        node = self
+        for segment in segments:
+            if node.below is None:
+                node.below = {}
+            if segment not in node.below:
+                node.below[segment] = Node(node, segment)
+            node = node.below[segment]
+        return node
+
+    def there(self, segments):
+        """The same, where it is there, else None."""
+        node = self
+        for segment in segments:
+            node = node.below.get(segment) if node and node.below else None
+        return node
+
+    def path(self):
+        segments, node = [], self
+        while node.above:
+            segments.append(node.segment)
+            node = node.above
+        return path_text(reversed(segments))
 
     def is_declared(self):
         return self.is_predefined or bool(self.places)
 
 
-class Space(paths.Tree):
-    """What the tables declared so far, as a tree."""
+class Space:
+    """What the tables declared so far, as a tree, so that a name is found without making each path that it may mean."""
 
     def __init__(self, size):
-        super().__init__(Node)
+        self.root, self.steps = Node(None, ""), STEPS_PER_BYTE * size + 100_000
         self.root.is_predefined = True
-        self.steps = STEPS_PER_BYTE * size + 100_000
         for segment, kind in standard.PREDEFINED.items():
             node = self.root.at([segment])
             node.is_predefined, node.count = True, int(kind.partition(" ")[2] or 0)
 
-    def step(self):
-        self.steps -= 1
-        if self.steps < 0:
-            raise TooManySteps
+    def node(self, path):
+        """The node of a path of the program's text, made where it isn't there."""
+        return self.root.at(path_of(path))
+
+    def start(self, scope, name):
+        """The node below which the segments of a name are placed, None above the root."""
+        node = self.root if name.root else scope
+        for _ in range(name.ups):
+            node = node and node.above
+        return node
+
+    def place(self, scope, name):
+        """The node at which a name is placed, made where it isn't there."""
+        node = self.start(scope, name)
+        return node and node.at(name.segments)
+
+    def candidates(self, scope, name):
+        """The nodes that are there at the paths that a name may mean, the nearest first."""
+        node = self.start(scope, name)
+        while node:
+            if name.is_searched:
+                self.steps -= 1
+                if self.steps < 0:
+                    raise TooManySteps
+            found = node.there(name.segments)
+            if found:
+                yield found
+            node = node.above if name.is_searched else None
 
     def find(self, scope, name):
         """What a name leads to: the first that is declared, else the first of an External; None where neither is."""
@@ -117,10 +163,6 @@ class Space(paths.Tree):
 
 
 # ---- reading
-
-
-# A name where a value is wanted: its term, the scope, the count that is known there, and the terms around it
-Use = namedtuple("Use", "term name scope read around")
 
 
 class Reader:
@@ -158,7 +200,6 @@ class Reader:
         return self.code[at]
 
     def span(self, at, count, end):
-        """So many bytes."""
         if at + count > min(end, self.stop):
             raise Stopped(min(end, self.stop))
         return self.code[at : at + count]

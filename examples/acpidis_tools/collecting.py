@@ -10,9 +10,8 @@ from collections.abc import Iterator
 from acpidis_tools.comparison import text_of, texts_of
 from acpidis_tools.decoding import Decoder, flag_words, hardware_name
 from acpidis_tools.errors import Fault, name_at
-from acpidis_tools.listing import HEADER, Block, Dump, Line, Listing, Path, path_of, path_text
+from acpidis_tools.listing import HEADER, Block, Dump, Line, Listing, Name, Path, path_of, path_text
 from acpidis_tools.names import FIELD_LISTS, PREDEFINED, Meaning, Names, Sort
-from acpidis_tools.paths import Name
 from acpidis_tools.resources import Descriptor
 from acpidis_tools.schema import COLUMNS
 from acpidis_tools.standard import DEVICE_NAMES, eisa_number, space_name
@@ -33,10 +32,8 @@ DEVICES = ("Device", "Processor", "ThermalZone")
 HEXADECIMAL = ("Flags", "Address", "Controller", "AddressOverride", "Entry")
 UNKNOWN_RECORD = re.compile(r"Record (\d+) Length (\d+) ?(.*)")
 # The statements that are facts, each with the part that is an object, and the part that is a number.
-STATEMENTS = {
-    "Load": (0, None), "LoadTable": (None, None), "Unload": (0, None), "Notify": (0, 1), "Sleep": (None, 0),
-    "Stall": (None, 0), "Fatal": (None, 1),
-}  # fmt: skip
+STATEMENTS = {"Load": (0, None), "LoadTable": (None, None), "Unload": (0, None), "Notify": (0, 1)}
+STATEMENTS |= {"Sleep": (None, 0), "Stall": (None, 0), "Fatal": (None, 1)}
 LONGEST_STATEMENT = 1_000
 SOURCE = re.compile(r"(\\|\^*)([A-Z_][A-Z0-9_]{0,3}(?:\.[A-Z_][A-Z0-9_]{0,3})*)")
 SPEED = re.compile(r"([0-9]+) (?:Hz|baud)")
@@ -124,8 +121,7 @@ class Collector:
         return self.rows
 
     def lines(self) -> Iterator[Line]:
-        """The lines of all blocks, each while `file` and `method` are those that it stands in. The rows of methods are
-        added where they are met first."""
+        """The lines of all blocks, while `file` and `method` are theirs. Methods get their rows where they begin."""
         for block in self.listing.blocks:
             self.file, end = block.file[1:-1], 0
             for line in block.lines:
@@ -154,14 +150,13 @@ class Collector:
         for row in self.listing.rows:
             kind, _, more = row.kind.partition(" ")
             line = self.names.lines[row.path]
-            count = int(more) if kind == "Method" else None
-            stands = "maybe" if row.is_maybe else "always"
             # What a Name has, or a method returns that does nothing else
             only = returns.get(line.number + 1) if kind == "Method" and line.end == line.number + 2 else None
             source, place = (line, 1) if kind == "Name" else (only, 0)
             term = self.decoder.argument(source, place) if source else None
             is_value = term and CONSTANT_WORD.match(term.word) and not term.arguments and term.braced is None
-            values = term.word if term and is_value else None, sums[row.path], files[line.number], line.number
+            values = term.word if is_value else None, sums[row.path], files[line.number], line.number
+            count, stands = int(more) if kind == "Method" else None, "maybe" if row.is_maybe else "always"
             self.add_name(row.path, kind, count, None, stands, row.times, *values)
             if kind == "Alias":
                 targets.append((row.path, path_of(more)))
@@ -169,8 +164,7 @@ class Collector:
         others += [(path, *kind, "external") for path, kind in self.externals().items()]
         for path, kind, more, stands in others:
             if path not in self.ids:
-                count = int(more) if more != "" else None
-                self.add_name(path, kind, count, None, stands, 0, None, None, None, None)
+                self.add_name(path, kind, None if more == "" else int(more), None, stands, 0, None, None, None, None)
         for path, target in targets:
             self.rows["name"][self.ids[path] - 1][5] = self.ids.get(target)
             if self.kinds.get(target) == "Method":
@@ -210,8 +204,7 @@ class Collector:
     def add_region(self, line: Line) -> None:
         if line.term not in REGIONS:
             return
-        texts = argument_texts(line)
-        arguments = self.decoder.terms(line)[0].arguments
+        texts, arguments = argument_texts(line), self.decoder.terms(line)[0].arguments
         if line.term == "DataRegion":
             values = [None, "DataRegion", None, None, ", ".join(texts[1:]), ""]
         else:
@@ -269,8 +262,7 @@ class Collector:
     def add_uses(self, line: Line) -> None:
         if not any(meaning.sort in USING for meaning in self.names.meanings[line.number]):
             return
-        meanings = self.decoder.meanings(line)
-        scope = path_text(line.scope)
+        meanings, scope = self.decoder.meanings(line), path_text(line.scope)
         for term, place in places(self.decoder.terms(line)):
             meaning = meanings.get(term.place)
             for number, meant in enumerate((meaning, *meaning.others) if meaning and meaning.sort in USING else ()):
@@ -381,7 +373,6 @@ def number_in(text: str) -> int:
 
 
 def argument_texts(line: Line) -> list[str]:
-    """The texts of the arguments of a line's term."""
     parts, depth = [""], 0
     for token in TOKEN.findall("".join(line.pieces[2:])):
         depth += (token in "({") - (token in ")}")

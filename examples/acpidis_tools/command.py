@@ -18,6 +18,7 @@ OPTION = re.compile(r"^ {2}(?:-\w, | {4})(--[a-z][a-z-]*)(?: <(\w+)>)?(?= |$)", 
 # What comes with these is no listing.
 NO_LISTING = ("--help", "--version", "--check")
 SEGMENT = re.compile(r"[A-Z_][A-Z0-9_]{0,3}")
+read = listing.read_file
 # How files begin that are packed.
 PACKED = (b"\x1f\x8b", b"BZh", b"\xfd7zXZ", b"PK\3\4", b"\x28\xb5\x2f\xfd")
 
@@ -27,8 +28,7 @@ class Parser(argparse.ArgumentParser):
 
     def error(self, message):
         self.print_usage(sys.stderr)
-        tell(message)
-        sys.exit(AT_FAULT)
+        leave(message)
 
 
 def parser(about, *names, **more):
@@ -43,8 +43,7 @@ def parser(about, *names, **more):
 
 
 def path_of(word):
-    """The path that a word means, with four signs in each segment: of \\_SB.PCI0._PTS or _sb_.pci0._pts it is
-    \\_SB_.PCI0._PTS."""
+    """The path that a word means, with four signs in each segment: \\_SB_.PCI0._PTS of _sb.pci0._pts."""
     segments = word.upper().removeprefix("\\").split(".")
     if not all(map(SEGMENT.fullmatch, segments)):
         raise argparse.ArgumentTypeError(f"{word!r} is no path, as \\_SB_.PCI0._PTS is one")
@@ -108,8 +107,7 @@ class Progress:
 
 
 def run(main):
-    """Runs the main function of a script, and writes out what it printed. Where a file is at fault, writing fails, or
-    memory ends, it ends in a line."""
+    """Runs the main function of a script, and writes out what it printed. What is at fault is told in a line."""
     try:
         # Standard output may be closed. With PYTHONUNBUFFERED a write of a part would pass for one of the whole.
         how = {"encoding": sys.stdout.encoding, "errors": sys.stdout.errors} if sys.stdout else {}
@@ -134,17 +132,12 @@ def run(main):
 
 
 @contextlib.contextmanager
-def reading(file):
-    """Names the file of which comes why it is refused."""
+def reading(file, what=""):
+    """Names the file of which comes why it is refused, with some words about it."""
     try:
         yield
     except (listing.NoListing, running.Refused) as fault:
-        refuse(f"{file!r}: {fault}")
-
-
-def read(file):
-    with listing.opened(file) as opened:
-        return opened.read()
+        refuse(f"{file!r}{what}: {fault}")
 
 
 @contextlib.contextmanager

@@ -10,8 +10,8 @@ from acpidis_tools import objects
 from acpidis_tools.listing import Line, Listing
 from acpidis_tools.names import FIELD_LISTS, FIRST_WORD, Meaning, Names, is_name
 from acpidis_tools.resources import Descriptor, descriptors
-from acpidis_tools.standard import ACCESS_TYPES, EISA_NUMBER, LOCK_RULES, PREDEFINED_NAMES, UPDATE_RULES, eisa_id, named
-from acpidis_tools.standard import space_name, status_words, uuid_text, uuid_with_name, with_name
+from acpidis_tools.standard import ACCESS_TYPES, EISA_NUMBER, LOCK_RULES, PREDEFINED_NAMES, UPDATE_RULES, UUID_NAMES
+from acpidis_tools.standard import eisa_id, named, space_name, status_words, uuid_text, with_name
 from acpidis_tools.terms import Term, places, terms_in
 
 HARDWARE_NAMES = ("_HID", "_CID")
@@ -27,22 +27,16 @@ FIELD_BITS = {
     "CreateBitField": (1, 1), "CreateByteField": (8, 8), "CreateWordField": (16, 8), "CreateDWordField": (32, 8),
     "CreateQWordField": (64, 8),
 }
-
-
-# A unit of a field list: the line of the list, its first bit and its width, how it is accessed, and the line before it
-# that says so, if one does
+# A unit of a field list: the line of that, its first bit, width and access, and the line before it that sets this
 Unit = namedtuple("Unit", "head bit width access behind")
 
 
 class Template(namedtuple("Template", "descriptors patches")):
-    """A buffer of resources: its descriptors, and for each the fields that lie in its bytes, by which a run may change
-    it."""
+    """A buffer of resources: its descriptors, and for each the fields in its bytes, by which a run may change it."""
 
     def texts(self) -> list[str]:
-        return [
-            one.text + (f" (patched by {', '.join(dict.fromkeys(names))})" if names else "")
-            for one, names in zip(self.descriptors, self.patches)
-        ]
+        patched = lambda names: f" (patched by {', '.join(dict.fromkeys(names))})" if names else ""
+        return [one.text + patched(names) for one, names in zip(self.descriptors, self.patches)]
 
 
 class Decoder:
@@ -115,9 +109,8 @@ class Decoder:
         """The buffers of which all bytes stand in the line."""
         if "Buffer" not in line.pieces:
             return []
-        found = [term for term, _ in places(self.terms(line)) if isinstance(term.braced, bytes)]
-        found = [term for term in found if term.word == "Buffer" and term.argument(0)]
-        return [term for term in found if term.arguments[0].number == len(term.braced)]
+        found = [it for it, _ in places(self.terms(line)) if it.word == "Buffer" and isinstance(it.braced, bytes)]
+        return [term for term in found if term.argument(0) and term.argument(0).number == len(term.braced)]
 
     def templates(self, line: Line) -> list[Template]:
         found = []
@@ -177,7 +170,7 @@ class Decoder:
     def notes(self, line: Line) -> list[str]:
         """What to say behind a line, in a few words each."""
         notes = [note for note in map(with_name, self.identifiers(line)) if f'"{note}"' not in line.words]
-        notes += [uuid_with_name(text) for text in self.uuids(line)]
+        notes += [f"UUID {with_name(text, UUID_NAMES)}" for text in self.uuids(line)]
         if line.number in self.units:
             unit = self.units[line.number]
             notes.append(bits_text(unit.bit, unit.width))

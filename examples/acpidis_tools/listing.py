@@ -10,7 +10,6 @@ import re
 import stat
 from collections import namedtuple
 from functools import lru_cache
-from typing import BinaryIO
 
 SEGMENT = r"[A-Z_][A-Z0-9_]{3}"
 NAME = re.compile(rf"(?:\\|\^+)?{SEGMENT}(?:\.{SEGMENT})*(?!\w)|\\|\^+")
@@ -44,6 +43,10 @@ DEFINITION_BLOCKS = ('"DSDT"', '"SSDT"')
 
 Path = tuple[str, ...]
 ROOT: Path = ()
+# The line of a dump, its file and its signature, and the lines below it, with their numbers
+Dump = namedtuple("Dump", "number text file signature notes")
+# A definition block: its file, and the lines from its head to the one that closes it
+Block = namedtuple("Block", "file lines")
 
 
 class NoListing(Exception):
@@ -62,6 +65,35 @@ def file_name(shown: str) -> bytes:
 
 def path_text(path: Path) -> str:
     return "\\" + ".".join(path)
+
+
+class Name(namedtuple("Name", "root ups segments")):
+    """A name: whether it counts from the root, how many scopes it goes up, and its segments."""
+
+    @classmethod
+    @lru_cache(maxsize=None)
+    def of(cls, text: str) -> Name:
+        bare, is_rooted = text.lstrip("\\^"), text.startswith("\\")
+        return cls(is_rooted, 0 if is_rooted else len(text) - len(bare), tuple(bare.split(".")) if bare else ())
+
+    def __str__(self) -> str:
+        return "\\" * self.root + "^" * self.ups + ".".join(self.segments)
+
+    @property
+    def is_searched(self) -> bool:
+        """Whether it is looked for in each scope around it."""
+        return not self.root and not self.ups and len(self.segments) == 1
+
+    def placed(self, scope: Path) -> Path | None:
+        if self.root:
+            return self.segments
+        return None if self.ups > len(scope) else scope[:len(scope) - self.ups] + self.segments
+
+    def candidates(self, scope: Path) -> list[Path]:
+        if self.is_searched:
+            return [scope[:length] + self.segments for length in range(len(scope), -1, -1)]
+        path = self.placed(scope)
+        return [] if path is None else [path]
 
 
 class Line:
@@ -86,15 +118,6 @@ class Line:
         return self.pieces[1::2]
 
     @property
-    def heads(self) -> list[Line]:
-        """The heads of the blocks around it, the outer first."""
-        heads, line = [], self.above
-        while line:
-            heads.append(line)
-            line = line.above
-        return heads[::-1]
-
-    @property
     def bare(self) -> str:
         return "".join(self.pieces)
 
@@ -108,10 +131,6 @@ class Line:
         return bytes.fromhex(self.pieces[2].strip(" {}").replace(",", ""))
 
 
-# The line of a dump, its file and its signature, and the lines below it, with their numbers
-Dump = namedtuple("Dump", "number text file signature notes")
-
-
 class Row(namedtuple("Row", "number path kind is_maybe times", defaults=[False, 1])):
     """A declared path: the kind of its first declaration, whether it only may stand, and how often it is declared."""
 
@@ -119,10 +138,6 @@ class Row(namedtuple("Row", "number path kind is_maybe times", defaults=[False, 
     def marks(self) -> str:
         """What a reader sees of both."""
         return ", ".join(["maybe"] * self.is_maybe + [f"{self.times:,} times"] * (self.times > 1))
-
-
-# A definition block: its file, and the lines from its head to the one that closes it
-Block = namedtuple("Block", "file lines")
 
 
 class Listing(namedtuple("Listing", "dumps rows blocks line_count above")):
@@ -219,17 +234,12 @@ def check_file(file: str) -> None:
         raise OSError(errno.EINVAL, f"it is a {what}, which may never end", file)
 
 
-def opened(file: str) -> BinaryIO:
-    """A file, open to be read."""
-    check_file(file)
-    return open(file, "rb")
-
-
-def read_file(file: str, most: int, why: str = "") -> bytes:
+def read_file(file: str, most: int | None = None, why: str = "") -> bytes:
     """What a file has. One of more than so many bytes is no listing, which is said with more words of `why`."""
-    with opened(file) as it:
-        text = it.read(most + 1)
-    if len(text) > most:
+    check_file(file)
+    with open(file, "rb") as it:
+        text = it.read(None if most is None else most + 1)
+    if most is not None and len(text) > most:
         raise NoListing(f"it has more than {most:,} bytes{why}")
     return text
 
@@ -247,13 +257,6 @@ def reader_of(text: bytes) -> Reader:
     if lines[-1]:
         raise NoListing(f"it is cut in line {len(lines)}")
     return Reader(lines[:-1])
-
-
-def read_dumps(text: bytes) -> tuple[list[Dump], list[str], int]:
-    """The dumps of a listing, the files of its definition blocks, and how many lines stand above its namespace."""
-    reader = reader_of(text)
-    dumps = reader.dumps()
-    return dumps, [form[1] for form in map(BLOCK.fullmatch, reader.lines[reader.at:]) if form], reader.at
 
 
 def read_listing(text: bytes) -> Listing:

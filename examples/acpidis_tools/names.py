@@ -1,14 +1,11 @@
 """What each name of a listing means, after docs/names.md and any_run.md, and where each path is used."""
 
-from __future__ import annotations
-
 from collections import defaultdict, namedtuple
 from collections.abc import Container
 from enum import Enum
 
 from acpidis_tools import aml, standard
-from acpidis_tools.listing import ROOT, Line, Listing, NoListing, Path, path_text
-from acpidis_tools.paths import Name
+from acpidis_tools.listing import ROOT, Line, Listing, Name, NoListing, Path, path_text
 
 PREDEFINED = {ROOT: "Scope", **{(segment,): kind for segment, kind in standard.PREDEFINED.items()}}
 SCOPES, FIELD_LISTS = aml.OPENERS, aml.FIELD_LISTS
@@ -20,6 +17,8 @@ MOST_OTHERS = 3
 # The place of the name that a term declares, among the words of its line.
 DECLARED = {word: -1 if word in aml.NAMED_LAST else 1 for word in aml.DECLARERS}
 FIRST_WORD = 0
+# Where the terms inside a block stand, and whether these are sure to
+Inside = namedtuple("Inside", "scope method is_sure")
 
 
 class Sort(Enum):
@@ -39,10 +38,6 @@ Uses = dict[Path, list[int]]
 
 def is_name(word: str) -> bool:
     return word[0] not in '"0' and word == word.upper()
-
-
-# Where the terms inside a block stand, and whether these are sure to
-Inside = namedtuple("Inside", "scope method is_sure")
 
 
 class Names:
@@ -97,10 +92,12 @@ class Names:
     def check(self, listing: Listing) -> None:
         """Whether the namespace's rows are the declared paths, with their marks."""
         rows = {row.path: row for row in listing.rows}
-        for path in rows.keys() ^ self.lines.keys():
-            if path in rows:
+        for path in rows:
+            if path not in self.lines:
                 raise NoListing(f"it is cut, or changed: none of its definition blocks declares {path_text(path)}")
-            raise NoListing(f"line {self.lines[path].number}: {path_text(path)} isn't in its namespace")
+        for path, line in self.lines.items():
+            if path not in rows:
+                raise NoListing(f"line {line.number}: {path_text(path)} isn't in its namespace")
         if not any(row.marks for row in listing.rows):
             # Without --any-run a Scope of what only an External names is sure.
             self.sure = set(self.lines)
@@ -125,8 +122,7 @@ class Names:
                 opened[line] = Inside(within, within if line.term == "Method" else line.method, is_sure)
 
     def declare(self, line: Line, is_sure: bool) -> tuple[Path, bool]:
-        """Declares what a line outside the bodies declares, and says where the terms inside it stand, and whether these
-        are sure to."""
+        """Declares what a line outside the bodies does, and says where its block stands, and whether it surely does."""
         if line.declared is not None:
             return self.declare_path(line, is_sure)
         if line.term == "External":

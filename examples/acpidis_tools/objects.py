@@ -6,7 +6,7 @@ from __future__ import annotations
 import uuid
 from collections.abc import Iterator
 
-from acpidis_tools.standard import UUID_LENGTH, WORDS, escaped, uuid_text, uuid_with_name
+from acpidis_tools.standard import UUID_LENGTH, UUID_NAMES, WORDS, escaped, uuid_text, with_name
 from acpidis_tools.terms import Term
 
 ALL_FUNCTIONS, PINS = 0xFFFF, "ABCD"
@@ -73,7 +73,7 @@ def dsd(value: Term) -> Iterator[str]:
         text = uuid_text(data(key))
         if not text:
             raise NoForm
-        yield uuid_with_name(text)
+        yield f"UUID {with_name(text, UUID_NAMES)}"
         for pair in elements(pairs):
             both = elements(pair) if isinstance(pair.braced, list) else []
             is_pair = len(both) == 2 and both[0].word[:1] == '"'

@@ -9,16 +9,10 @@ from acpidis_tools.standard import WORDS, escaped, space_name
 # Where the content of a descriptor begins.
 SMALL, LARGE = 1, 3
 END = 0x0F
+FIELDS = "kind first last length digits lines words source index at size"
 
 
-# The fields of a descriptor, each with what it is where nothing says it
-FIELDS = {
-    "first": None, "last": None, "length": None, "digits": 8, "lines": (), "words": (), "source": "", "index": 0,
-    "at": 0, "size": 0,
-}  # fmt: skip
-
-
-class Descriptor(namedtuple("Descriptor", ["kind", *FIELDS], defaults=FIELDS.values())):
+class Descriptor(namedtuple("Descriptor", FIELDS, defaults=[None, None, None, 8, (), (), "", 0, 0, 0])):
     """A descriptor: its name in ASL, its addresses, with how many digits these have, its lines (interrupts, channels or
     pins), what else it says, the name of the device that it goes through, with its index there, where its bytes are."""
 

@@ -7,9 +7,9 @@ import shutil
 import subprocess
 from collections import namedtuple
 
-from acpidis_tools import aml, paths, standard
+from acpidis_tools import aml, names
 from acpidis_tools.errors import FAULT, Fault
-from acpidis_tools.listing import NAME, NoListing, read_listing
+from acpidis_tools.listing import NAME, ROOT, Name, NoListing, path_of, read_listing
 
 LAUNCHER = pathlib.Path(__file__).resolve().parents[2] / "acpidis"
 # Beside the script, where it is installed
@@ -26,7 +26,9 @@ VALUE = re.compile(
     r"(Buffer|Package|VarPackage|LAnd|LOr|LNot|LEqual|LGreater|LLess|DerefOf|RefOf|SizeOf|ObjectType|Match) \(.*"
     r"|(Add|Subtract|Multiply|Mod|And|NAnd|Or|NOr|XOr|Not|ShiftLeft|ShiftRight|Concatenate|Index|Mid|To\w+) \(.*, \)"
 )
-PREDEFINED = {"\\": "Scope", **{f"\\{segment}": kind for segment, kind in standard.PREDEFINED.items()}, "\\_OSI": 1}
+PREDEFINED = {**names.PREDEFINED, ("_OSI",): 1}
+# What a run printed: the reason why the set is refused, or the listing and its methods whose bodies are raw
+Run = namedtuple("Run", "refused listing raw")
 
 
 class Unusable(Exception):
@@ -65,74 +67,65 @@ def program():
     return os.fsdecode(run.stdout.rstrip(b"\n"))
 
 
-class Node(paths.Node):
-    """A path: its kind, a method's as its count and an Alias's as the path that it stands for, whether it only may
-    stand, the greatest count of the methods that are declared there, and the count of a path that isn't declared."""
-
-    __slots__ = ("kind", "is_maybe", "most", "count")
-
-    def __init__(self, above, segment):
-        super().__init__(above, segment)
-        self.kind = self.most = self.count = None
-        self.is_maybe = False
-
-
-class Namespace(paths.Tree):
-    """The paths of a text."""
+class Namespace:
+    """The paths of a text. `kinds` are those of all that are declared, a method's as its count and an Alias's as the
+    path that it stands for, `maybe` those that only may stand, `most` the greatest counts of the methods that are
+    declared, and `counts` those of paths that aren't declared. Names are texts."""
 
     def __init__(self):
-        super().__init__(Node)
-        for path, kind in PREDEFINED.items():
-            self.node(path).kind = kind
-
-    def start(self, scope, name):
-        """Names are texts. Above the root stands the root itself."""
-        node, name = super().start(scope, paths.Name.of(name))
-        return node or self.root, name
+        self.kinds, self.maybe, self.most, self.counts = PREDEFINED.copy(), set(), {}, {}
 
     def add(self, row):
-        """The node of a row of a listing."""
-        node, (kind, _, more) = self.root.at(row.path), row.kind.partition(" ")
-        node.is_maybe = row.is_maybe and node.path() not in PREDEFINED
-        node.kind = int(more) if kind == "Method" else more if kind == "Alias" else kind
-        return node
+        """The path of a row of a listing."""
+        kind, _, more = row.kind.partition(" ")
+        self.kinds[row.path] = int(more) if kind == "Method" else path_of(more) if kind == "Alias" else kind
+        if row.is_maybe and row.path not in PREDEFINED:
+            self.maybe.add(row.path)
+        return row.path
+
+    @staticmethod
+    def candidates(scope, name):
+        """The paths that a name may mean, the nearest first. Above the root stands the root itself."""
+        name = Name.of(name)
+        return name.candidates(scope) or [name.segments]
+
+    def place(self, scope, name):
+        return self.candidates(scope, name)[0]
 
     def may_be(self, scope, name, own=()):
         """What a name may be: methods' counts and other kinds, those of the nearest path first, up to one that is sure;
-        nothing where no table tells. `own` are nodes that the body declared."""
+        nothing where no table tells. `own` are paths that the body declared."""
         counts, found = [], []
-        for node in self.candidates(scope, name):
-            if node in own:
+        for path in self.candidates(scope, name):
+            if path in own:
                 return [*found, "Local"]
-            if node.kind is not None:
-                found += self.kinds_of(node)
-                if not node.is_maybe:
+            if path in self.kinds:
+                found += self.kinds_of(path)
+                if path not in self.maybe:
                     return found
-            elif node.count is not None:
-                counts.append(node.count)
+            elif path in self.counts:
+                counts.append(self.counts[path])
         return found or counts[:1]
 
-    def kinds_of(self, node):
-        kind = node.kind
-        if isinstance(kind, str) and kind.startswith("\\"):
-            node = self.node(kind)
-            kind = node.count if node.kind is None else node.kind
-        return [it for it in (kind, node.most) if it is not None]
+    def kinds_of(self, path):
+        kind = self.kinds[path]
+        if isinstance(kind, tuple):
+            path, kind = kind, self.kinds.get(kind, self.counts.get(kind))
+        return [it for it in (kind, self.most.get(path)) if it is not None]
 
     def found(self, scope, name):
-        """The node that a name means, else its nearest place."""
-        node = next((node for node in self.candidates(scope, name) if node.kind is not None), None)
-        if node and isinstance(node.kind, str) and node.kind.startswith("\\"):
-            return self.node(node.kind)
-        return node or self.place(scope, name)
+        """The path that a name means, else its nearest place."""
+        path = next((path for path in self.candidates(scope, name) if path in self.kinds), None)
+        if path is None:
+            return self.place(scope, name)
+        return self.kinds[path] if isinstance(self.kinds[path], tuple) else path
 
 
 class Method:
-    """A method of the text: its place among them, the node of its path, the lines of its body, and where that is raw
-    its bytes and their fault."""
+    """A method of the text: its number, its path, the lines of its body, and of a raw one the bytes and their fault."""
 
-    def __init__(self, number, node):
-        self.number, self.node, self.lines, self.raw, self.fault = number, node, [], None, None
+    def __init__(self, number, path):
+        self.number, self.path, self.lines, self.raw, self.fault = number, path, [], None, None
 
 
 def is_lone(line, namespace):
@@ -140,21 +133,21 @@ def is_lone(line, namespace):
     text = line.bare
     if NAME.fullmatch(text):
         kinds = namespace.may_be(line.scope, text)
-        return bool(kinds) and all(isinstance(kind, str) for kind in kinds)
+        return bool(kinds) and not any(isinstance(kind, int) for kind in kinds)
     return bool(CONSTANT.fullmatch(text) or VALUE.fullmatch(text))
 
 
 def check_depth(scope, line, fault):
-    if scope.depth > MOST_SEGMENTS:
+    if len(scope) > MOST_SEGMENTS:
         raise fault(f"line {line.number}: a scope of more than {MOST_SEGMENTS} segments is too deep for this script")
 
 
 class Listing:
-    """A text: its namespace, its methods in their order, and its lines but for the ends of blocks, each with the node
-    of its scope, and the method in whose body it stands."""
+    """A text: its namespace, its methods, and its lines but for the ends of blocks, with their scopes and methods;
+    `outside` are those that stand in none."""
 
     def __init__(self, text):
-        self.namespace, self.methods = Namespace(), []
+        self.namespace, self.methods, self.outside = Namespace(), [], []
         try:
             found = read_listing(text)
         except NoListing as fault:
@@ -163,37 +156,28 @@ class Listing:
             self.namespace.add(row)
         self.lines, opened = [line for line in found.lines if line.term], {}
         for line in self.lines:
-            line.scope, line.method = opened.get(line.above, (self.namespace.root, None))
+            line.scope, line.method = opened.get(line.above, (ROOT, None))
             if line.method and line.term == "Raw":
                 line.method.raw = line.code
-            elif line.method:
-                line.method.lines.append(line)
+            else:
+                (line.method.lines if line.method else self.outside).append(line)
             if line.end:
                 opened[line] = self.opened(line)
-
-    def lone_values(self, lines=None):
-        """How many of the lines, or of those outside the methods, are values that nothing takes."""
-        lines = [line for line in self.lines if line.method is None] if lines is None else lines
-        return sum(is_lone(line, self.namespace) for line in lines)
 
     def opened(self, line):
         if line.term not in SCOPES or line.method:
             return line.scope, line.method
         name = line.pieces[3] if line.pieces[2] == " (" else ""
         look = self.namespace.found if line.term == "Scope" else self.namespace.place
-        node = look(line.scope, name)
-        check_depth(node, line, Unusable)
+        path = look(line.scope, name)
+        check_depth(path, line, Unusable)
         if line.term != "Method":
-            return node, None
+            return path, None
         form = METHOD.match(line.bare)
         if form:
-            node.most = max(int(form[2]), node.most or 0)
-        self.methods.append(Method(len(self.methods), node))
-        return node, self.methods[-1]
-
-
-# What a run printed: the reason why the set is refused, or the listing and its methods whose bodies are raw
-Run = namedtuple("Run", "refused listing raw")
+            self.namespace.most[path] = max(int(form[2]), self.namespace.most.get(path, 0))
+        self.methods.append(Method(len(self.methods), path))
+        return path, self.methods[-1]
 
 
 def started(words, errors):
@@ -215,7 +199,6 @@ def ended(words, errors="strict"):
 
 
 def run(words):
-    """Runs the program with these words."""
     out, err, refusal = ended(words)
     if refusal is not None:
         return Run(refusal.removeprefix("acpidis: "), None, [])

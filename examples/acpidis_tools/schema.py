@@ -1,7 +1,5 @@
 """The tables of facts (docs/facts.md): their columns, and which of these name a row of another table."""
 
-from __future__ import annotations
-
 import pathlib
 import re
 
@@ -17,10 +15,9 @@ REFERENCES = {
 }
 # The tables that say what the tables' code says, which may be that of many machines.
 OF_CODE = [table for table, columns in COLUMNS.items() if columns[1] == "code"]
-Row = list
 
 
-def shifted(rows: list[Row], table: str, bases: dict[str, int]) -> list[Row]:
+def shifted(rows: list[list], table: str, bases: dict[str, int]) -> list[list]:
     """The rows with other numbers: each counts from what its table has already."""
     references = [(0, bases[table]), *((place, bases[other]) for place, other in REFERENCES[table])]
     for row in rows:

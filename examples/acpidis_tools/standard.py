@@ -8,10 +8,8 @@ import re
 import uuid
 
 # 5.3.1, 5.7, what is there before any table is loaded, below the root
-PREDEFINED = {
-    **dict.fromkeys(("_GPE", "_PR_", "_SB_", "_SI_", "_TZ_"), "Scope"), "_GL_": "Mutex", "_OS_": "Name", "_REV": "Name",
-    "_OSI": "Method 1",
-}  # fmt: skip
+PREDEFINED = dict.fromkeys(("_GPE", "_PR_", "_SB_", "_SI_", "_TZ_"), "Scope")
+PREDEFINED |= {"_GL_": "Mutex", "_OS_": "Name", "_REV": "Name", "_OSI": "Method 1"}
 
 # The lists of words.txt, by their names
 LISTS = (pathlib.Path(__file__).parent / "words.txt").read_text().replace("\n  ", " ")
@@ -82,9 +80,9 @@ def eisa_number(identifier: str) -> int | None:
     return int.from_bytes(code.to_bytes(4, "little"), "big")
 
 
-def with_name(identifier: str) -> str:
-    """An identifier of a device, with its name."""
-    return f"{identifier} {DEVICE_NAMES.get(identifier, '')}".rstrip()
+def with_name(identifier: str, names: dict[str, str] = DEVICE_NAMES) -> str:
+    """An identifier, of a device or a UUID, with its name."""
+    return f"{identifier} {names.get(identifier, '')}".rstrip()
 
 
 def uuid_text(data: bytes) -> str:
@@ -95,7 +93,3 @@ def uuid_text(data: bytes) -> str:
     text = str(uuid.UUID(bytes_le=data))
     is_likely = 1 <= data[7] >> 4 <= 5 and data[8] >> 6 == 0b10
     return text if is_likely or text in UUID_NAMES else ""
-
-
-def uuid_with_name(text: str) -> str:
-    return f"UUID {text} {UUID_NAMES.get(text, '')}".rstrip()

@@ -11,9 +11,9 @@ from acpidis_tools import aml
 # Between two words stand parentheses, commas, decimal numbers and the bytes of a buffer.
 MARK = re.compile(r"\{[0-9A-F]{2}(?:, [0-9A-F]{2})*\}|[(){},]|[0-9A-F]+")
 # Those whose last or only target is handed on as an object, or changed in its place.
-OBJECT_OPERATORS = {
-    "RefOf", "SizeOf", "ObjectType", "Wait", "Acquire", "Signal", "Reset", "Release", "Unload", "Notify",
-}
+OBJECT_OPERATORS = "RefOf SizeOf ObjectType Wait Acquire Signal Reset Release Unload Notify".split()
+# Where a term stands: in which operator or call, as its part of which kind, and which part that is
+Place = namedtuple("Place", "within kind number")
 
 
 class Term:
@@ -67,10 +67,6 @@ def terms_in(pieces: list[str]) -> list[Term]:
             elif last and token[0] == "{":
                 last.braced = bytes.fromhex(token[1:-1].replace(",", ""))
     return [term for term in siblings if term is not None]
-
-
-# Where a term stands: in which operator or call, as its part of which kind, and which part that is
-Place = namedtuple("Place", "within kind number")
 
 
 def places(terms: list[Term]) -> Iterator[tuple[Term, Place]]:

@@ -6,6 +6,7 @@ from collections import namedtuple
 from acpidis_tools import command, listing, running
 from acpidis_tools.asl import fields, language, terms
 from acpidis_tools.asl.names import Names, Scope, Use, externals
+from acpidis_tools.listing import ROOT, path_text
 
 TABLE = re.compile(
     r'Table ("[^"]*") ("[^"]*") Length \d+ Revision (\d{1,3}) Oem ("[^"]*") ("[^"]*") ([0-9A-F]{8}) Creator .*'
@@ -25,7 +26,7 @@ class Table(namedtuple("Table", "number file signature revision oem oem_table oe
 
 class Block:
     """A definition block: a line for each of the listing's, from the line `first` on. `said` are the names on its
-    lines, with their counts of arguments, `methods` the heads and nodes of its methods, and `bodies` tell whether these
+    lines, with their counts of arguments, `methods` the heads and paths of its methods, and `bodies` tell whether these
     have terms. A text that is to be changed has the Externals that it needs, and is without the `guards`, the first and
     the last line of each If that has Externals alone: iasl writes one of its own around those."""
 
@@ -72,19 +73,19 @@ class Block:
         turner = terms.Turner(int(self.table.revision), self.tell)
         turned = turner.line(line.bare)
         self.said += [(named.name, named.count) for named in turner.names if named.name]
-        node = self.names.line(line, turner.names)
+        path = self.names.line(line, turner.names)
         if line.term == "Method":
             self.bodies.append(True)
-            self.methods.append((line, node))
+            self.methods.append((line, path))
         return turned
 
-    def methods_at(self, path):
+    def methods_at(self, wanted):
         """The methods with this path. What stands inside one that is found is part of it."""
         found = []
-        for (line, node), has_terms in zip(self.methods, self.bodies):
-            if node.path() == path and not (found and line.number < found[-1].line.end):
+        for (line, path), has_terms in zip(self.methods, self.bodies):
+            if path == wanted and not (found and line.number < found[-1].line.end):
                 told = [it for it in self.unspelled if line.number < it[0] < line.end]
-                found.append(Found(self, self.table, line, node, told, has_terms))
+                found.append(Found(self, self.table, line, path, told, has_terms))
         return found
 
     def text(self, rows, said):
@@ -106,18 +107,18 @@ def around(head, lines, *about):
     return [head, *wanted, *lines, *([OTHERS, *others] if others else []), "}"]
 
 
-class Found(namedtuple("Found", "block table line node told has_terms")):
+class Found(namedtuple("Found", "block table line path told has_terms")):
     """A method of a listing, as a definition block with nothing else."""
 
     def text(self, rows, said):
         names, first, end = self.block.names, self.line.number, self.line.end
         # By its whole path the method needs no Scope around it.
         lines = self.block.lines[first - self.block.first : end + 1 - self.block.first]
-        head = re.sub(r"Method \([^,]*", lambda _: f"Method ({self.node.path()}", lines[0])
+        head = re.sub(r"Method \([^,]*", lambda _: f"Method ({path_text(self.path)}", lines[0])
         lines = [line[2 * self.line.depth - 2 :] for line in (head, *lines[1:])]
-        above = Use(Scope(names.space.root, None), terms.Named(self.node.above.path()), first)
+        above = Use(Scope(ROOT, None), terms.Named(path_text(self.path[:-1])), first)
         uses = [*(use for use in names.uses if first <= use.number < end), above]
-        return around(self.table.head('"SSDT"', self.block.tell), lines, names.space, uses, {self.node}, said, rows)
+        return around(self.table.head('"SSDT"', self.block.tell), lines, names.space, uses, {self.path}, said, rows)
 
 
 class Reader:
@@ -127,7 +128,6 @@ class Reader:
         self.make, self.space, self.rows, self.blocks = make, running.Namespace(), [], []
 
     def read(self, file):
-        """Reads the listing of a file."""
         lines = listing.reader_of(command.read(file))
         dumps = lines.dumps()
         forms = [(dump, TABLE.fullmatch(dump.text)) for dump in dumps]

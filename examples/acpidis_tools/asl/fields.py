@@ -42,7 +42,6 @@ def element(text, tell):
 
 
 def connection(inner, tell):
-    """The Connection of a name or of a descriptor."""
     if NAME.fullmatch(inner):
         return f"Connection ({plain(inner, tell)})"
     form = BUFFER.fullmatch(inner)
@@ -74,9 +73,7 @@ def gpio(code):
     """GpioInt or GpioIo, whose pins, path and vendor's bytes follow each other (6.4.3.8.1)."""
     usage, flags, strength, debounce = (Bytes(code).number(at, 2) for at in (5, 7, 10, 12))
     pins, path, more, vendors = (Bytes(code).number(at, 2) for at in (14, 17, 19, 21))
-    if (code[3], pins, more + vendors) != (1, 23, len(code)) or usage > 1:
-        raise ValueError(NO_MACRO)
-    if not pins < path < more or path - pins & 1:
+    if (code[3], pins, more + vendors) != (1, 23, len(code)) or usage > 1 or not pins < path < more or path - pins & 1:
         raise ValueError(NO_MACRO)
     if code[4] == 1 and not flags & ~0x1B:
         kind, parts = "GpioIo", (SHARES[flags >> 3], PULLS[code[9]], debounce, strength, LIMITS[flags & 3])

@@ -21,6 +21,11 @@ EXTERNAL = re.compile(rf"External \(({NAME.pattern}|), 0x([0-9A-F]{{2}}), 0x0([0
 BRACKET = re.compile(r'"[^"]*"|[({})]')
 # So many brackets stand open at most: a listing has 512 levels of terms.
 DEEPEST = 600
+# A name on a line: its arguments there, whether it is a value, or a call in ASL; of an External's the word of its type
+Named = namedtuple("Named", "name count is_value is_call word", defaults=[0, False, False, ""])
+# Where a term stands: in which word's brackets, of which kind, as which part (as in aml.PARTS), and the place of that
+Part = namedtuple("Part", "word mark kind place")
+OUTSIDE = Part("", "", "T", 0)
 
 
 def quoted(inner, tell):
@@ -53,16 +58,6 @@ def declared(name, word, count=0):
     """The External of a name, of a type and with a count of arguments."""
     arguments = f", UnknownObj, {{{', '.join(['UnknownObj'] * count)}}}" if count else ""
     return f"External ({name}, {word}{arguments})"
-
-
-# A name on a line: how many arguments it has there, whether it is a value, and whether ASL has it as
-# a call; of an External's the word of its type
-Named = namedtuple("Named", "name count is_value is_call word", defaults=[0, False, False, ""])
-
-
-# Where a term stands: in which word's brackets, of which kind, as which part (as in aml.PARTS), and the place of that
-Part = namedtuple("Part", "word mark kind place")
-OUTSIDE = Part("", "", "T", 0)
 
 
 def spelled(term):
@@ -98,6 +93,8 @@ class Turner:
         if len(found) != 1 or spelled(found[0]) + opens != text:
             raise ValueError("none of a listing")
         turned = self.term(found[0], OUTSIDE) + opens
+        if found[0].word in aml.OPENERS and not self.names:
+            raise ValueError("none of a listing")
         if NAME.fullmatch(text):
             turned, self.names = turned + " ()", [Named(text, is_value=True, is_call=True)]
         return turned
@@ -151,7 +148,6 @@ class Turner:
         return ""
 
     def word(self, term, part):
-        """The word of a term."""
         token = term.word
         if (part.word, part.mark) == ("VarPackage", "(") and term.number in range(256):
             self.tell("a VarPackage of a constant size")

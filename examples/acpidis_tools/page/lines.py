@@ -10,11 +10,9 @@ from html import escape
 from acpidis_tools.errors import Fault, name_at
 from acpidis_tools.listing import Line, path_text
 from acpidis_tools.names import Meaning, Sort, is_name
-from acpidis_tools.page.sheet import BETWEEN, Sheet, classed, packed
+from acpidis_tools.page.sheet import BETWEEN, DEEPEST_FOLD, Sheet, classed, packed
 from acpidis_tools.standard import counted
 
-# A browser's tree of elements ends at 512 levels.
-DEEPEST_FOLD = 60
 # A block of so many lines isn't laid out before it is seen. Its height is known beforehand by its lines.
 LONG_BLOCK = 12
 # So many lines are packed together.

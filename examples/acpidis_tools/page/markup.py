@@ -3,8 +3,6 @@
 The anchor of a path is the path itself, and that of a line its number.
 """
 
-from __future__ import annotations
-
 import base64
 import hashlib
 import pathlib
@@ -20,7 +18,6 @@ from acpidis_tools.page.sheet import Sheet, classed, link, packed
 from acpidis_tools.page.tree import TreeWriter
 from acpidis_tools.standard import counted
 
-HERE = pathlib.Path(__file__).resolve().parent
 # Longer lists of a comparison are folded.
 MOST_OPEN = 20
 ADDRESS_OF_ENTRY = re.compile(rf"(  Entry [0-9A-F]+) ({TEXT})")
@@ -28,7 +25,6 @@ HEADS = ("", "File", "Table", "Length", "Revision", "OEM", "Creator", "")
 
 
 def folded_list(head: str, items: list[str], is_open: bool = False) -> list[str]:
-    """Items of a list that folds."""
     return [f"<details{' open' * is_open}><summary>{head}</summary><ul>\n", *items, "</ul></details>"]
 
 
@@ -44,14 +40,11 @@ def raw_list_html(sheet: Sheet) -> list[str]:
 
 def undeclared_html(sheet: Sheet) -> list[str]:
     """The predefined names that are used, and the names that nothing declares."""
-    names = sheet.names
-    open_paths = [path for path in PREDEFINED if path not in names.lines]
-    predefined = [
-        f"<div><dfn id={path_text(path)}>{path_text(path)}</dfn> {PREDEFINED[path]}"
-        f"{sheet.uses_html(names.uses[path_text(path)])}</div>\n" for path in open_paths
-    ]
+    names, uses_html = sheet.names, sheet.uses_html
+    kinds = {path_text(path): kind for path, kind in PREDEFINED.items() if path not in names.lines}
+    predefined = [f"<div><dfn id={it}>{it}</dfn> {kinds[it]}{uses_html(names.uses[it])}</div>\n" for it in kinds]
     strays = [
-        f"<div><u>{word}</u>{sheet.uses_html(uses)}</div>\n" for word, uses in sorted(names.strays.items())
+        f"<div><u>{word}</u>{uses_html(uses)}</div>\n" for word, uses in sorted(names.strays.items())
         if sheet.shown is None or any(sheet.shows(number) for numbers in uses.values() for number in numbers)
     ]
     end = "</section>\n"
@@ -119,21 +112,19 @@ def comparison_html(sheet: Sheet) -> list[str]:
     found = sheet.comparison
     if not found:
         return []
-    names = sheet.names.lines
     links = {path: link(path) if sheet.has_path(path) else path_text(path) for path in (*found.lacks, *found.changes)}
     lacks = [f"<li class=lacking>{links[path]}</li>\n" for path in sorted(found.lacks)]
     adds, changes = [], []
     for path, text in found.adds.items():
         # It may be predefined here, or an External's, and then has its anchor.
-        has_anchor = path in PREDEFINED or path in sheet.names.externals
-        anchor = "" if has_anchor else f" id={path_text(path)}"
+        anchor = "" if path in PREDEFINED or path in sheet.names.externals else f" id={path_text(path)}"
         head, shown = f"<details{anchor}><summary>{path_text(path)}</summary>", escape("\n".join(text))
         adds.append(f"<li class=added>{head}<pre>{shown}</pre></details></li>\n")
     for path, text in found.changes.items():
         # Lines that this listing alone has are struck out, those of the other one stand where it has them.
         lines = differences(found.here[path], text)
         shown = "\n".join(f"<{mark}>{escape(line)}</{mark}>" if mark else escape(line) for mark, line in lines)
-        head = f"<details id=c{names[path].number}><summary>{links[path]}</summary>"
+        head = f"<details id=c{sheet.names.lines[path].number}><summary>{links[path]}</summary>"
         changes.append(f"<li class=changed>{head}<pre>{shown}</pre></details></li>\n")
     written = [f"<section id=comparison><h2>Beside {escape(found.other)}</h2>\n", *table_changes_html(sheet)]
     ours, theirs = escape(sheet.name), escape(found.other)
@@ -184,7 +175,7 @@ def navigation_html(sheet: Sheet, tree: TreeWriter) -> list[str]:
 
 
 def page(sheet: Sheet) -> str:
-    style, script = ((HERE / name).read_text() for name in ("page.css", "page.js"))
+    style, script = (pathlib.Path(__file__).with_name(name).read_text() for name in ("page.css", "page.js"))
     tree = TreeWriter(sheet)
     parts = [head_html(sheet, style, script), *navigation_html(sheet, tree)]
     parts.append("<main id=main tabindex=-1>\n<p id=where hidden></p>\n")

@@ -16,14 +16,15 @@ from acpidis_tools.names import PREDEFINED, Meaning, Names, Sort, Uses
 
 # The page of a longer listing has its lines packed.
 LONG_TEXT = 200_000
+# A browser's tree of elements ends at 512 levels.
+DEEPEST_FOLD = 60
 # What stands between the lines of a packed part and their uses.
 BETWEEN = "\n<!-- uses -->\n"
 
 
 @dataclass
 class Sheet:
-    """What a page is made of. `shown` are the numbers of the lines that it has of the definition blocks, where these
-    aren't all, `paths` the declared paths that it has."""
+    """What a page is made of. Where it hasn't all, `shown` are the numbers of the lines, `paths` the declared paths."""
 
     listing: Listing
     names: Names
@@ -95,11 +96,15 @@ class Sheet:
     def parts(self, is_wanted: Callable[[Line], bool]) -> Iterator[tuple[list[Line], list[Line]]]:
         """The lines that are wanted, each with what is in its block, behind the heads of the blocks around."""
         for block in self.listing.blocks:
-            kept_to = 0
+            kept_to, heads = 0, []
             for place, line in enumerate(block.lines):
+                while heads and heads[-1].end < line.number:
+                    heads.pop()
                 if line.number > kept_to and is_wanted(line):
                     kept_to = max(line.number, line.end)
-                    yield line.heads, block.lines[place : place + kept_to - line.number + 1]
+                    yield heads.copy(), block.lines[place : place + kept_to - line.number + 1]
+                if line.end:
+                    heads.append(line)
 
 
 def link(path: Path) -> str:

@@ -1,7 +1,5 @@
 """Writes the namespace as a tree, and what its paths are found by."""
 
-from __future__ import annotations
-
 from collections import Counter, defaultdict, namedtuple
 from collections.abc import Iterable
 from html import escape
@@ -9,21 +7,17 @@ from html import escape
 from acpidis_tools.errors import raw_lines
 from acpidis_tools.listing import Path, path_of, path_text
 from acpidis_tools.names import PREDEFINED
-from acpidis_tools.page.sheet import Sheet, classed, link, packed
+from acpidis_tools.page.sheet import DEEPEST_FOLD, Sheet, classed, link, packed
 from acpidis_tools.standard import DEVICE_NAMES
 
-DEEPEST_FOLD = 60
 # What has so many paths below it is packed.
 MANY = 60
-
-
 # A path in the tree: its kind, nothing where it isn't declared, its marks, how many declared ones are below it
 Node = namedtuple("Node", "kind marks is_maybe below", defaults=["", "", False, 0])
 
 
 class TreeWriter:
-    """`nodes` are the declared paths and those on the way to them, each before what is below it, `identifiers` those of
-    devices by the devices' paths."""
+    """`nodes` are the declared paths and those on the way to them, in order, `identifiers` those of devices."""
 
     def __init__(self, sheet: Sheet):
         self.sheet = sheet
