@@ -21,7 +21,8 @@ LEAST_WRITE = 32_768
 MOST_FREED = 100
 # A run touches few pages that a program doesn't touch which only says its version. 128 are the large window of the rows.
 MOST_FAULTS = 80
-# Threads: three read the bodies with the first; as many print rows that are many, one the text of a long table.
+# Threads, no more and no fewer: the runtime has one; three read bodies, as many print rows that are many, and one the text
+# of a long table.
 STARTS = {"a small set": (DEMO, 4), f"{METHODS} rows": ("set", 8)}
 # Seconds of processor time, several times what each takes, and less than without the steps upward (14 for the first).
 SHAPES = {
@@ -34,7 +35,8 @@ BOUNDED = {
     "names-outside": 128, "regions-outside": 128, "terms-outside": 64, "connections-outside": 64, "deep-owners": 64,
     "deep-owners-run": 128, "deep-pairs": 64, "maybe-aliases": 64, "maybe-aliases-deep": 64,
 }  # fmt: skip
-# The same of a quarter of a shape that is listed: its tables keep no terms, which would take 40 bytes and more.
+# The same of a quarter of a shape that is listed, by one worker and by four: its tables keep no terms, which would take 40
+# bytes and more.
 TOLD = {"scopes": 16, "external": 16}
 MOST_SECONDS, STARTED_BYTES = 2, 40_000_000
 # Devices as firmware has them, and how many instructions a run by one worker executes for each byte of them.
@@ -44,7 +46,8 @@ DEVICES, MOST_INSTRUCTIONS = 10_000, 400
 def costs_of(program, folder, make, most, *options):
     """What a run of a set takes, which is tried again where a busy machine makes it longer than it may be."""
     measuring.write(folder, make)
-    answer, seconds = timed(run, [program, "--workers", "1", *options, "."], 60, cwd=folder, most=most)
+    workers = [] if "--workers" in options else ["--workers", "1"]
+    answer, seconds = timed(run, [program, *workers, *options, "."], 60, cwd=folder, most=most)
     assert answer.status in (0, 3), (folder, answer)
     return answer._replace(processor=seconds)
 
@@ -59,6 +62,7 @@ def measure(program, room):
         outcome, (_, starts, *_) = counted(room, shim_in(room), [program, "--workers", "4", room / place])
         assert outcome.status == 0, (name, outcome)
         yield f"threads by 4 workers: {name}", starts, most
+        yield f"threads by 4 workers that are missing: {name}", most - starts, 0
     small, least = (run([program, word], 60) for word in (DEMO, "--version"))
     assert (small.status, least.status) == (0, 0), small
     yield f"writes of {length} bytes", writes, length // LEAST_WRITE
@@ -72,7 +76,7 @@ def measure(program, room):
         yield f"seconds: {name}", round(answer.processor, 2), most
     for shape in (it for it in shapes.SHAPES if it.name in BOUNDED | TOLD):
         is_told = shape.name in TOLD
-        for words in ([], ["--any-run"]) if is_told else [["--check"]]:
+        for words in ([], ["--any-run"], ["--workers", "4"]) if is_told else [["--check"]]:
             folder = room / "".join([shape.name, *words])
             make = partial(shape.make, shape.size // (4 if is_told else 1))
             answer = costs_of(program, folder, make, MOST_SECONDS, *words, *shape.options(folder))
