@@ -28,6 +28,7 @@ ROWS_A_MINUTE = 40
 # So many lines of a definition, or more, that begin or end with ∷ are rows of a table.
 LEAST_ROWS = 3
 WORD = re.compile(r"(?<![\w.\-])(?:([A-Za-z]\w*)\.)?([^\W\d][\w\-×]*)(?![\w\-]*\s=\s)")
+MARKS = re.compile(r"(?<!\S)(?:abbrev|unfoldable|pub) ")
 SIGN = re.compile(r"(?<=\s)[^\w\s(){}\[\],.;:\"→λ×∀=|¬⊥_]+(?=\s|\)|$)|(?<=\s)(?:==|\|\|)(?=\s)|\[\]|\bif\b")
 # A line of a definition that goes through the forms of a type, and a form of the type with what is said of it
 STEP = re.compile(r"\w+ \(?(\w+)-F\.(\w+)[\w ]*\)? = (.*)")
@@ -108,6 +109,11 @@ class Type:
 
 def code_of(lines):
     return [line for line in lines if line.strip() and not line.lstrip().startswith("--")]
+
+
+def without_marks(line):
+    """A line of a definition without the words that say who may use it, and how the prover does."""
+    return line if line.lstrip().startswith("--") else MARKS.sub("", line)
 
 
 def paragraphs(lines, indent):
@@ -233,7 +239,7 @@ class Page:
             self.part(title, roots[number], others.union(self.known))
         # The types of faults, behind all that an Ok is made of
         types = [it for name in FAULT_TYPES for (_, other), it in self.sources.types.items() if other == name]
-        self.lines += [f"## {FAULTS}", "", "No statement on this page says what these hold.", ""]
+        self.lines += [f"## {FAULTS}", "", "No statement on this page says what these hold; what each is of, [refusals.md](refusals.md) says.", ""]
         self.block("rust", [line for it in types for line in [*it.lines, ""]])
         self.parts.append((FAULTS, [], types))
 
@@ -264,12 +270,14 @@ class Page:
                 self.steps(definition)
                 block = []
             else:
-                block += [*(definition.around if definition.around != around else []), *definition.lines, ""]
+                block += [*(definition.around if definition.around != around else []), *map(without_marks, definition.lines), ""]
             around = definition.around
             types = self.new_types(definition.types)
             if types:
                 self.block("antt", block)
-                self.block("rust", [line for it in types if not it.seen and not it.stepped for line in [*it.lines, ""]])
+                plain = [it for it in types if it.is_plain()]
+                self.block("rust", [line for it in types if not (it.seen or it.stepped or it in plain) for line in [*it.lines, ""]])
+                self.lines += [line for it in plain for line in (f"`{it.name}` is one of {', '.join(f'`{form}`' for form in it.forms())}.", "")]
                 seen = [f"a{'n' * (it.name[0] in 'AEIOU')} `{it.name}` as `{it.seen}`" for it in types if it.seen]
                 self.lines += [f"Definitions see {', '.join(seen)}.", ""] if seen else []
                 block = []
@@ -295,17 +303,18 @@ class Page:
         parts_of = lambda it: [] if it.seen or it.name in FAULT_TYPES else list(self.sources.types_in(it))
         found = [it for it in topmost_first(types, parts_of) if it not in self.shown and it.name not in FAULT_TYPES]
         self.shown += found
-        return [it for it in found if not it.is_plain()]
+        return found
 
     def counts(self):
         comments = sum(line.lstrip().startswith("--") for it in self.known for line in it.lines)
         files = len({(it.file.crate, it.file.name) for it in self.known})
         *parts, added, printed, faults = self.parts
-        sums = ("All of this", [it for part in parts for it in part[1]], [it for part in parts for it in part[2]])
+        sums = ("What an Ok means: the six above", [it for part in parts for it in part[1]], [it for part in parts for it in part[2]])
         return [
             "## How much it is", "",
             f"The definitions stand in {files} files. {comments} lines of comments in them, and the texts of the types, aren't counted. "
-            f"The minutes are for a reader of {LINES_A_MINUTE} lines a minute, or of {ROWS_A_MINUTE} rows of tables.",
+            f"The minutes are for the definitions alone, {LINES_A_MINUTE} lines a minute, or {ROWS_A_MINUTE} rows of tables; who reads the "
+            "comments and the head of the page along takes about twice as long.",
             "", "| Part | Names | Lines of definitions | Rows of tables | Lines of types | Minutes |",
             "|---|---|---|---|---|---|",
             *[counts_of(*part) for part in (*parts, sums, added, printed, faults)], "",

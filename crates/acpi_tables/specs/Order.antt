@@ -87,8 +87,8 @@ abbrev pub dsdt_address : List ℕ → ℕ
 dsdt_address table = if nat_le 148 (length table) && not (nat_eq (number_at table 140 8) 0) then number_at table 140 8
     else number_at table 40 4
 
--- The first RSDP leads to a list, the first FADT that this lists gives the address of the DSDT, and the SSDTs are those
--- of the list, in its order.
+-- The first RSDP leads to a list, the first FADT of this list gives the address of the DSDT, and the SSDTs are those of
+-- the list, in its order: one that it doesn't list isn't loaded.
 pub record IsChained (dumps : List Dump) (dsdt : ℕ) (ssdts : List ℕ) : Type 0 where
   pub root : ℕ
   pub list : ℕ

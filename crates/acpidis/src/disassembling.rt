@@ -204,7 +204,7 @@ pub fn disassemble<'a, R: Threads + Wait + Sync, G: Gate + Sync>(
     // The dumps mean the listing.
     ensures sound { IfOk result (λ x. (k : Meaning) × Means dumps.now options k ×
         Shows x dumps.now k) }
-    // They mean no other.
+    // It shows each that they mean.
     ensures one { IfOk result (λ x. (k : Meaning) → Means dumps.now options k →
         Shows x dumps.now k) }
     // Each dump is one that is taken with any checksum.

@@ -101,8 +101,9 @@ abbrev mutual
 -- ---- Which trees are AML (ACPI 6.5, 20.2): what each position takes, what each row is made of, how many arguments a
 -- name has.
 --
--- Wider than 20.2: a text has bytes 01 to FF; the byte 00 stands as any SuperName, as of an Increment; a value alone,
--- or a name that is no method, stands as a term of a body; a name stands as any data object.
+-- Wider than 20.2: a text has bytes 01 to FF; the byte 00 stands as any SuperName, for instance an Increment's; Debug
+-- stands as any TermArg; a value alone, or a name that is no method, stands as a term of a body; a name stands as any
+-- data object.
 -- Narrower: no call stands as a SuperName or a Target; no Method, Scope, Device, Processor, PowerResource or
 -- ThermalZone in a body; in a table only declarations and guards, unless its code may run, and never a Return; at most
 -- 512 levels.
@@ -257,7 +258,7 @@ pub record ReadsBody (arity : Arities) (method : List Seg) (code : List ℕ) (ts
   pub lawful : AreTerms (setting_of arity (Some method) code) 512 positions.BodyTerm set.empty ts
   pub spelled : encodings code ts ≡ code
 
--- The encoding begins at this offset. Then the span of each method's body begins right behind its term's opcode,
+-- Where the encoding begins at this offset, the span of each method's body begins right behind its term's opcode,
 -- package length and parts.
 abbrev mutual
   pub BodiesStand : List ℕ → ℕ → Trees → Type 0

@@ -13,7 +13,7 @@ pub enum Group {
     Declaration,
 }
 
-/// Where an opcode may stand. A term of a body is one of a table whose code may run too, but for Return.
+/// Where an opcode may stand. A table whose code may run takes what a body takes as its terms, but for Return.
 #[derive(Clone, Copy)]
 pub enum Place {
     /// As a data object, as an argument and as a term of a body.

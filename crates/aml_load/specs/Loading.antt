@@ -125,8 +125,8 @@ opened site es n = option_or (leads site es n)
     (cond (site.any_run && not (is_some (found (namespace_of es) set.empty site.scope n))) (placed site.scope n) None)
 
 -- Where the terms inside an object stand, and those inside a Scope. An interpreter passes over what is inside an object
--- whose path is declared already, and inside a Scope of what is no scope: where the code outside methods may run, that
--- isn't sure. Else nothing is asked of what a Scope opens, or of the path above a declaration.
+-- whose path is declared already, and inside a Scope of what is no scope: where the code outside methods may run, what
+-- stands there isn't sure. Else nothing is asked of what a Scope opens, or of the path above a declaration.
 abbrev pub in_object : Where → List Entry → List Seg → Where
 in_object site es p = record site { scope = p; sure = sure_here site es p && not (is_some (declared_at es p)) }
 
@@ -134,8 +134,9 @@ abbrev pub in_scope : Where → List Entry → List Seg → Where
 in_scope site es p = record site { scope = p; sure = site.sure && (not site.any_run || scope_in (outlook_of es) p) }
 
 -- What a term does by its role at a site, from the entries in front of it to those behind it; and where the terms
--- inside it stand (`below`, which is free where none can stand there). What is inside an If, an Else or a While is not
--- sure, where the code outside methods may run. The object type of an External (its first byte) is not looked at.
+-- inside it stand (`below`, at the path that the term declares or opens; free where none can stand there). What is
+-- inside an If, an Else or a While is not sure, where the code outside methods may run. The object type of an External
+-- (its first byte) is not looked at.
 abbrev pub Does : Role → Where → List Entry → Parts → Tail → List Entry → Where → Type 0
 Does (roles.Declares o) site es ps r fs below = (n : Name) × (last_label None ps ≡ Some n)
     × Adds site es n (plain_entry site es (kind_of o)) fs × (placed site.scope n ≡ Some below.scope)
@@ -175,7 +176,8 @@ methods_of es = filter_map method_of es
 
 module _ (unknown_zero : Bool) (last : List Entry) (code : List ℕ) where
   -- The names in a term take as many arguments by the last entries as were read with them: it is lawful by these counts
-  -- too. In a declaration an unknown name takes none.
+  -- too. They were read with none, so that a name that takes some refuses the set. In a declaration an unknown name
+  -- takes none.
   abbrev pub Agrees : Position → Where → Tree → Type 0
   Agrees p site t = IsLawful
       (setting_of (agreed_arity (outlook_of last) (unknown_zero || in_declaration t) site.scope) None code)

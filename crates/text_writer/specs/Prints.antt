@@ -7,7 +7,7 @@ use Rattle.std.specs.Io.KnownBytes.{Appends}
 use Rattle.text_writer.specs.declared.output.Out.{Out}
 use Rattle.text_writer.specs.declared.output.WriteFault.{WriteFault}
 
--- the bytes of this word; closed, so that a proof reads a text as it stands in its definition
+-- the bytes of this word
 unfoldable pub word : String → List ℕ
 word s = codes s
 
