@@ -33,9 +33,9 @@ from concurrent.futures.process import BrokenProcessPool, ProcessPoolExecutor
 from functools import partial
 
 from acpidis_tools import command
-from acpidis_tools.collecting import Collector, record_rows, table_rows
+from acpidis_tools.collecting import LENGTH, Collector, header_of, record_rows, table_rows
 from acpidis_tools.errors import read_errors
-from acpidis_tools.listing import BLOCK, NoListing, file_name, read_file, read_listing, reader_of
+from acpidis_tools.listing import BLOCK, Dump, NoListing, file_name, read_file, read_listing, reader_of
 from acpidis_tools.names import Names
 from acpidis_tools.schema import COLUMNS, INDEXES, OF_CODE, SCHEMA, shifted
 
@@ -57,6 +57,7 @@ class Machine:
     def __init__(self, name: str, text: pathlib.Path, errors: pathlib.Path | None, dumps: pathlib.Path | None):
         self.name, self.files = printable(name), (text, errors)
         self.fault, self.text, self.errors, self.tables, self.records, self.above = "", b"", b"", [], [], None
+        self.lost = 0  # dumps that aren't there, or are others
         try:
             self.text, self.errors = self.read()
             if not self.text:
@@ -68,8 +69,8 @@ class Machine:
             found, self.above = reader.dumps(), reader.at
             files = [form[1] for form in map(BLOCK.fullmatch, reader.lines[reader.at :]) if form]
             # The sums of the dumps by the names of files as the listing has them
-            there = [(dump.file, file_of(dumps, dump.file)) for dump in found] if dumps else []
-            sums = {name: hashlib.sha256(file.read_bytes()).hexdigest() for name, file in there if file}
+            sums = {dump.file: sum_in(dumps, dump) for dump in found} if dumps else {}
+            self.lost = sum(it is None for it in sums.values())
             self.tables, self.records = table_rows(found, files, sums), record_rows(found)
         except (NoListing, OSError) as fault:
             self.fault = said(fault)
@@ -79,6 +80,15 @@ class Machine:
     def read(self) -> tuple[bytes, bytes]:
         text, errors = self.files
         return read_file(str(text), MOST_BYTES), read_file(str(errors), MOST_BYTES) if errors else b""
+
+
+def sum_in(folder: pathlib.Path, dump: Dump) -> str | None:
+    """The sum of a dump of this folder, if it is there with the length that the listing has."""
+    file, length = file_of(folder, dump.file), header_of(dump)[LENGTH]
+    data = file.read_bytes() if file else b""
+    at = 20 if data.startswith(b"RSD PTR ") else 4
+    is_this = file and length in (None, int.from_bytes(data[at : at + 4], "little"))
+    return hashlib.sha256(data).hexdigest() if is_this else None
 
 
 def file_of(folder: pathlib.Path, quoted: str) -> pathlib.Path | None:
@@ -135,7 +145,10 @@ class Database:
 
     def __init__(self, file: str):
         self.file = file
-        self.room = tempfile.TemporaryDirectory(prefix=".part", dir=os.path.dirname(os.path.abspath(file)))
+        folder = os.path.dirname(os.path.abspath(file))
+        if not os.path.isdir(folder):
+            command.leave(f"{file!r}: there is no folder {folder!r}")
+        self.room = tempfile.TemporaryDirectory(prefix=".part", dir=folder)
         self.connection = sqlite3.connect(f"{self.room.name}/facts", isolation_level=None)
         self.connection.executescript(f"PRAGMA journal_mode = OFF; PRAGMA synchronous = OFF; BEGIN; {SCHEMA}")
 
@@ -166,13 +179,14 @@ class Lines:
 class Facts:
     """Numbers the rows of all machines, and hands them on. Code that machines share is kept once, with the lines of the
     first one's text: `codes` has its row, or why there is none, and how many lines stand above it there, by its sum.
-    `lacking` are the machines without facts, each with its fault."""
+    `lacking` are the machines without facts, each with its fault, and so many dumps are `lost`."""
 
     def __init__(self, sink: Database | Lines):
         self.sink = sink
         self.bases = dict.fromkeys(COLUMNS, 0)
         self.codes: dict[str, tuple[int | None, str, int]] = {}
         self.lacking: list[tuple[str, str]] = []
+        self.lost = 0
 
     def add_code(self, code_sum: str, above: int, fault: str, rows: dict[str, list[list]]) -> None:
         tables = ("code", *OF_CODE) if rows else ()
@@ -194,6 +208,7 @@ class Facts:
         self.bases["acpi_table"] += len(machine.tables)
         self.bases["record"] += len(machine.records)
         self.lacking += [(machine.name, fault)] if fault else []
+        self.lost += machine.lost
 
 
 def machines_of(asked: argparse.Namespace) -> Iterator[Machine]:
@@ -309,6 +324,8 @@ def main() -> None:
                 command.leave(fault)
             command.refuse(f"{asked.listing!r}: {fault}")
         facts.sink.close()
+        if facts.lost:
+            command.tell(f"{facts.lost} dumps aren't in {asked.dumps!r}, or have other lengths: no sum stands for them")
     except sqlite3.Error as error:
         command.leave(f"cannot write {asked.facts!r}: {error}")
     if fault:

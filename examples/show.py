@@ -17,6 +17,7 @@ from collections.abc import Iterator
 from acpidis_tools import command
 from acpidis_tools.decoding import bits_text
 from acpidis_tools.listing import Line, path_text
+from acpidis_tools.names import PREDEFINED
 from acpidis_tools.page.sheet import Sheet
 
 MOST_LIKE = 8
@@ -49,6 +50,8 @@ def other(sheet: Sheet, asked: tuple[str, ...]) -> str:
     for path, line in sheet.names.externals.items():
         if path_text(path).endswith(asked):
             return f"; only an External names it, in line {line.number}"
+    if any(path_text(path).endswith(asked) for path in PREDEFINED):
+        return "; it is predefined, and Scopes open it"
     last, paths = asked[0].lstrip("\\").rpartition(".")[2], [row.path for row in sheet.listing.rows]
     segments = sorted({path[-1] for path in paths if path})
     like = [path_text(path) for path in paths if path[-1:] == (last,)]

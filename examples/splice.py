@@ -67,7 +67,8 @@ def place_in(code, path, file):
         raise Refused(f"{file!r} can't be read behind byte {HEADER + stopped}")
     found = reader.found.get(path, [])
     if len(found) != 1:
-        raise Refused(f"{file!r} declares {path} {len(found)} times" if found else f"{file!r} doesn't declare {path}")
+        none = f"{file!r} doesn't declare {path} by a term of its own, as a unit of a field list has none"
+        raise Refused(f"{file!r} declares {path} {len(found)} times" if found else none)
     return found[0]
 
 
@@ -140,9 +141,11 @@ def main():
     asked = words.parse_args()
     if sys.stdout.isatty() and not asked.output:
         words.error("a table isn't for a terminal: name a file for it by -o")
+    taken = {os.path.realpath(asked.dump): "DUMP", os.path.realpath(asked.new): "NEW"}
     for file in filter(None, (asked.output, asked.initrd)):
-        if file == "-" or os.path.exists(file) and os.path.samefile(file, asked.dump):
-            words.error(f"{file!r} is {'no name of a file' if file == '-' else 'DUMP'}: name another")
+        named = "no name of a file" if file == "-" else taken.setdefault(os.path.realpath(file), file)
+        if named is not file:
+            words.error(f"{file!r} is {named}: name another")
     table, new = command.read(asked.dump), command.read(asked.new)
     for path in asked.paths:
         table = patched(table, new, path, (asked.dump, asked.new))

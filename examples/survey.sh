@@ -78,11 +78,18 @@ without_line() {
     done
 }
 
+# has_results RESULTS: whether each line is a result, and one at the end that isn't whole begins as one
+has_results() {
+    awk -F '\t' -v whole="$(wc -l <"$1")" '
+        NR <= whole ? NF != 8 || $2 !~ /^[0-9]+$/ : NF > 8 || NF > 1 && $2 !~ /^[0-9]*$/ || !whole && NF < 2 { exit 1 }' "$1"
+}
+
 # open_results SETS RESULTS: makes the file where it isn't there, and cuts off a last line that isn't whole
 open_results() {
     [ -d "$1" ] || fail "no folder $1"
     [ ! -e "$2" ] || [ -f "$2" ] || [ "$2" = /dev/null ] || fail "$2 is no regular file"
     : >>"$2" || fail "cannot write $2"
+    has_results "$2" || fail "$2 has lines that are no results: name another file"
     if [ -n "$(tail -c 1 -- "$2")" ]; then
         truncate -s "$(head -n "$(wc -l <"$2")" -- "$2" | wc -c)" -- "$2" || fail "cannot write $2"
     fi
@@ -228,12 +235,13 @@ case ${1-} in
     exit
     ;;
 esac
-while getopts j:s:m: option; do
+while getopts :j:s:m: option; do
     case $option in
     j) jobs=$OPTARG ;;
     s) export SURVEY_SECONDS=$OPTARG ;;
     m) export SURVEY_MEGABYTES=$OPTARG ;;
-    *) exit 1 ;;
+    :) fail "-$OPTARG takes a value" ;;
+    *) fail "there is no option -$OPTARG here: those of acpidis stand behind RESULTS" ;;
     esac
 done
 shift $((OPTIND - 1))

@@ -24,10 +24,14 @@ TITLE = re.compile(r"[> \t]*(RSD PTR|[A-Z0-9!_]{4}) @ 0x([0-9A-Fa-f]{1,16})\s*")
 # What a text ends with that is cut in a title
 CUT_TITLE = re.compile(r"[> \t]*(RSD PTR|[A-Z0-9!_]{4})(?: @?| @ 0?x?)?")
 ROW = re.compile(r"[> \t]*([0-9A-Fa-f]{4,8}): ((?:[0-9A-Fa-f]{2}(?: |$)){1,16})")
+# The first row of a table, whose signature is of letters, digits, ! and _
+UNTITLED = re.compile(r"[> \t]*0{4,8}: (?:(?:4[1-9A-Fa-f]|5[0-9AaFf]|3[0-9]|21) ){4}")
 HEADER, ROOT, ROOT_LENGTH, WIDTH = 36, b"RSD PTR ", 20, 16
 # A header as tables in images have them: a signature, a length, a revision, and names of printable bytes.
 HEAD = re.compile(rb"(?=([A-Z][A-Z0-9]{3}|[A-Z0-9]{3}!).{4}[\0-\x20].[ -~\0]{6}[ -~\0]{8}.{4}[ -~\0]{4})", re.DOTALL)
 SIGNATURE = re.compile(rb"[A-Z0-9_!]{4}")
+# What editors and shells put in front of a text in UTF-8, and in UTF-16
+MARK, WIDE_MARKS = b"\xef\xbb\xbf", (b"\xff\xfe", b"\xfe\xff")
 # A table of the file: its bytes, its signature, and its address, 0 where none is known
 Table = namedtuple("Table", "data signature address")
 
@@ -68,6 +72,8 @@ def dumped(text):
                 raise Refused(f"line {odd or number}: {row} should stand there")
             tables[-1][1].extend(more)
             odd = number * (len(more) < WIDTH)  # the first line that is no whole row
+        elif row and UNTITLED.match(row[0]):
+            raise Refused(f"line {number}: a table begins there without its title")
         elif not line.strip("> \t\r"):
             title = None
         else:
@@ -108,7 +114,7 @@ def found_in(image):
 
 
 def tables_of(data):
-    text = data.decode("latin-1")
+    text = data.decode("utf-16", "replace") if data.startswith(WIDE_MARKS) else data.removeprefix(MARK).decode("latin-1")
     is_text = any(map(TITLE.fullmatch, map(str.rstrip, text.split("\n"))))
     tables = dumped(text) if is_text else behind_each_other(data) or found_in(data)
     if not tables and HEAD.match(data) and length_of(data) > len(data):

@@ -283,11 +283,19 @@ class Checks(Tally):
             one, other, path = words.split()
             self.refuses(f"splice {words}", [SPLICE, f"splice/{one}", f"splice/{other}", path], what, printed="")
         self.is_same("no path", self.run(SPLICE, old, new, "1").status, 2)
-        for option, file in ("-o", old), ("--initrd", "splice/../splice/old"), ("-o", "-"):
-            ran = self.run(SPLICE, option, file, old, new, "NAM1")
-            said = f"acpidis-splice: {file!r} is {'no name of a file' if file == '-' else 'DUMP'}: name another"
-            self.is_same(f"splice {option} {file}", (ran.status, ran.err.splitlines()[-1]), (2, said))
-        self.is_same("DUMP stays", (self.room / old).read_bytes(), files["old"])
+        same = "splice/../splice/old"
+        for words, file, what in [
+            (["-o", old], old, "DUMP"), (["--initrd", same], same, "DUMP"), (["-o", new], new, "NEW"),
+            (["-o", "-"], "-", "no name of a file"), (["--initrd", "./one", "-o", "one"], "./one", "one"),
+        ]:  # fmt: skip
+            ran = self.run(SPLICE, *words, old, new, "NAM1")
+            said = f"acpidis-splice: {file!r} is {what}: name another"
+            self.is_same(f"splice {words}", (ran.status, ran.err.splitlines()[-1]), (2, said))
+        self.is_same("DUMP and NEW stay", [(self.room / it).read_bytes() for it in (old, new)], [files["old"], files["new"]])
+        (self.room / "led").write_bytes(b"")
+        (self.room / "link").symlink_to("led")
+        self.says("through a link", [SPLICE, "-o", "link", old, new, "NAM1"], 0, "", "")
+        self.is_so("the link stays", (self.room / "link").is_symlink() and (self.room / "led").read_bytes())
         words = [SPLICE, "--oem-revision", "--initrd", "acpi.cpio", old, new, "\\DEV0.MET0", "dev0.nam0", "\\NAM1"]
         patched = self.says("three paths", words, 0, b"", errors=None)
         wanted = device(b"DEV0", b"\x08NAM0\x0A\x07", method(b"MET0", 1, NOOP)) + b"\x08NAM1\x0D1\x00" + twice
@@ -335,6 +343,8 @@ class Checks(Tally):
             ("behind", dsdt + ssdt + oem, one_by_one),
             ("image", noise + dsdt + b"\xFF" * 100 + ssdt + oem + dsdt + bytes(77), one_by_one),
             ("wrong sum", wrong + ssdt, {"dsdt.dat": wrong, "ssdt.dat": ssdt}),
+            ("marked", "\ufeff".encode() + text.encode(), names),
+            ("wide", text.encode("utf-16"), names),
         ]:
             (self.room / name).write_bytes(content)
             shown = {file: "SSDT" if file == "ssdt2.dat" else data[:4].decode() for file, data in wanted.items()}
@@ -357,6 +367,7 @@ class Checks(Tally):
             ("truncated", dsdt[:-1].decode("latin-1"), "DSDT has 41 bytes of 42"),
             ("title", "DSDT @ 0x0\n", "line 1: DSDT has 0 bytes of its header"),
             ("cut title", text[: text.index(" @ 0x", 9) + 5], "line 6: the text ends in the title of a table, 'SSDT @ 0x'"),
+            ("untitled", f"x: {text}", "line 2: a table begins there without its title"),
             ("cut behind", (dsdt + dsdt[:-1]).decode("latin-1"), "byte 42: DSDT has 41 bytes of 42"),
             ("cut header", (dsdt + ssdt[:7]).decode("latin-1"), "byte 42: SSDT has 7 bytes of its header"),
         ]:  # fmt: skip

@@ -136,7 +136,12 @@ class Checks(Tally):
         written(self.room / "texts/cut", {"text": b"".join(lines[:20])})
         said = '2 of 5 machines without facts; the last, none: refused: table "notes": Short; '
         said += "all: SELECT name, fault FROM machine WHERE fault IS NOT NULL"
-        self.refuses("many machines", ["facts.py", "--jobs", 2, "--dumps", "sets", "texts", "facts"], said, 3, "")
+        lost = "2 dumps aren't in 'sets', or have other lengths: no sum stands for them\nacpidis-facts: "
+        self.refuses("many machines", ["facts.py", "--jobs", 2, "--dumps", "sets", "texts", "facts"], lost + said, 3, "")
+        (self.room / "longer").mkdir()
+        (self.room / "longer/dmar.dat").write_bytes(table(b"DMAR", b"\7\7\7", b"BOARD"))
+        made = self.run("facts.py", "--json", "--dumps", "longer", "texts/rack/b/text")
+        self.is_so("a dump of another length", "dump_sum" not in made.out and " dumps aren't in 'longer'" in made.err)
         sql = "SELECT dump_sum FROM acpi_table WHERE signature = 'DMAR' AND dump_sum IS NOT NULL"
         wanted = {hashlib.sha256(files["dmar.dat"]).hexdigest() for files in list(sets.values())[:3]}
         self.is_same("the sums of dumps", {row[0] for row in self.rows("facts", sql)}, wanted)

@@ -62,6 +62,8 @@ ACPIDIS=/none/acpidis "$survey" sets none >/dev/null 2>&1
 is 'no program' "$? $(cat none)" '1 '
 mkdir nothing
 mkfifo pipe
+printf 'no\tresults\nat all' >text
+cp "$demo/dsdt.dat" bytes
 # shellcheck disable=SC2086
 while IFS='|' read -r name text words; do
     is "$name" "$(timeout 9 "$survey" $words 2>&1; echo "$?"; cat none)" "$text"$'\n1'
@@ -69,6 +71,9 @@ done <<'T'
 no sets|acpidis-survey: no folder nowhere|nowhere none
 too few words|acpidis-survey: usage: survey.sh [-j JOBS] [-s SECONDS] [-m MEGABYTES] SETS RESULTS [OPTION..]|sets
 results that are no file|acpidis-survey: /dev/full is no regular file|sets /dev/full
+a file of others|acpidis-survey: text has lines that are no results: name another file|sets text
+a file without lines|acpidis-survey: bytes has lines that are no results: name another file|sets bytes
+an option of the program|acpidis-survey: there is no option -- here: those of acpidis stand behind RESULTS|--any-run sets none
 --help|acpidis-survey: --help and --version check no set|sets none --any-sum --help
 --version|acpidis-survey: --help and --version check no set|sets none --any-sum --version
 an empty folder|acpidis-survey: no folder with tables is below nothing|nothing none

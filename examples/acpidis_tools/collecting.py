@@ -35,6 +35,7 @@ UNKNOWN_RECORD = re.compile(r"Record (\d+) Length (\d+) ?(.*)")
 STATEMENTS = {"Load": (0, None), "LoadTable": (None, None), "Unload": (0, None), "Notify": (0, 1)}
 STATEMENTS |= {"Sleep": (None, 0), "Stall": (None, 0), "Fatal": (None, 1)}
 LONGEST_STATEMENT = 1_000
+LENGTH = 2
 SOURCE = re.compile(r"(\\|\^*)([A-Z_][A-Z0-9_]{0,3}(?:\.[A-Z_][A-Z0-9_]{0,3})*)")
 SPEED = re.compile(r"([0-9]+) (?:Hz|baud)")
 PINNED = ("GpioInt", "GpioIo", "PinFunction", "PinConfig", "PinGroup")
@@ -56,6 +57,7 @@ def table_rows(dumps: list[Dump], files: list[str], sums: dict[str, str]) -> lis
 
 
 def header_of(dump: Dump) -> list:
+    """A row of acpi_table as far as the line of a dump says it: the length is the one at LENGTH."""
     form = HEADER.fullmatch(dump.text)
     found = form.groupdict() if form else {}
     length = found.get("length") or found.get("root_length")

@@ -44,9 +44,10 @@ def parser(about, *names, **more):
 
 def path_of(word):
     """The path that a word means, with four signs in each segment: \\_SB_.PCI0._PTS of _sb.pci0._pts."""
-    segments = word.upper().removeprefix("\\").split(".")
+    segments = word.strip().upper().removeprefix("\\").split(".")
     if not all(map(SEGMENT.fullmatch, segments)):
-        raise argparse.ArgumentTypeError(f"{word!r} is no path, as \\_SB_.PCI0._PTS is one")
+        shown = repr(word).replace("\\\\", "\\")
+        raise argparse.ArgumentTypeError(f"{shown} is no path, as \\_SB_.PCI0._PTS is one")
     return "\\" + ".".join(segment.ljust(4, "_") for segment in segments)
 
 
@@ -142,18 +143,23 @@ def reading(file, what=""):
 
 @contextlib.contextmanager
 def whole(place):
-    """A part that becomes a file, or a folder, as a whole or not at all. Faults have the name of what is written."""
+    """A part that becomes a file, or a folder, as a whole or not at all, where a link leads. Faults have the name of what
+    is written."""
     try:
-        with tempfile.TemporaryDirectory(prefix=".part", dir=os.path.dirname(os.path.abspath(place))) as room:
+        there = os.path.realpath(place)
+        with tempfile.TemporaryDirectory(prefix=".part", dir=os.path.dirname(there)) as room:
             part = pathlib.Path(room, "part")
             yield part
-            os.replace(part, place)
+            os.replace(part, there)
     except OSError as fault:
         fault.filename = place
         raise
 
 
 def write(file, data):
+    """Writes a file as a whole. What is no regular file stays."""
+    if os.path.exists(file) and not os.path.isfile(file):
+        leave(f"{file!r} is no regular file: name another")
     with whole(file) as part:
         part.write_bytes(data)
         part.chmod(0o644)
