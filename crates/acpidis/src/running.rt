@@ -329,9 +329,10 @@ fn print_raw_bodies<T, E: Write>(
 fn print_raw_body<E: Write>(path: &[Seg], fault: &CodeFault, err: &mut E) -> Result<(), Error> {
     write!(err, "acpidis: body \\")?;
     if let Some((first, others)) = path.split_first() {
-        write!(err, "{first}")?;
-        for seg in others {
-            write!(err, ".{seg}")?;
+        // Thousands of segments in a path, and of such lines, are written faster so than as formatted text.
+        err.write_all(&first.0)?;
+        for Seg([a, b, c, d]) in others {
+            err.write_all(&[b'.', *a, *b, *c, *d])?;
         }
     }
     writeln!(err, ": {fault}")
