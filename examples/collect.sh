@@ -5,9 +5,10 @@
 #
 # HOSTS is a file with a host a line. The tables of each come into the folder SETS/HOST, whole or not at all. JOBS machines
 # are asked at a time, 16 if left out, each for COLLECT_SECONDS at most (60), and none may send more than COLLECT_MEGABYTES
-# (64), nor more than 4,096 files, nor anything packed. Of what it sends regular files and folders are kept. sudo must ask for no password there. SETS/log gets a line for
-# each that was asked: host, status, seconds. What went wrong is said with the host in front, and then the status is 1.
-# Start it again to ask those hosts again that have no folder yet.
+# (64), nor more than 4,096 files, nor folders that are deep, nor anything packed. Of what it sends regular files and folders
+# are kept. sudo must ask for no password there. SETS/log gets a line for each that was asked: host, status, seconds. What
+# went wrong is said with the host in front, and then the status is 1. Start it again to ask those hosts again that have no
+# folder yet.
 
 # one HOST: its tables
 one() {
@@ -35,13 +36,15 @@ one() {
 }
 
 # unpack FOLDER: the regular files and folders of FOLDER/tar into FOLDER/set, with plain rights. From standard input tar
-# unpacks nothing, so that no more comes out than was sent.
+# unpacks nothing that is packed. A sparse file may be longer than what was sent, and a long name stand for many folders.
 unpack() {
-    if [ "$(tar -tf - <"$1/tar" | head -n 4097 | wc -l)" -gt 4096 ]; then
-        echo 'more than 4096 files' >&2
-        return 1
-    fi
-    mkdir -- "$1/set" && tar -C "$1/set" --no-same-owner --no-same-permissions -xf - <"$1/tar" &&
+    tar --numeric-owner -tvf - <"$1/tar" | awk -v most=$((${COLLECT_MEGABYTES:-64} * 1048576)) '
+        { size += $3 }
+        NR > 4096 { said = "more than 4096 files" }
+        size > most { said = "files of more than " most / 1048576 " MB" }
+        gsub("/", "/") > 16 { said = "folders that are too deep" }
+        END { if (said) { print said >"/dev/stderr"; exit 1 } }' || return 1
+    mkdir -- "$1/set" && timeout "${COLLECT_SECONDS:-60}" tar -C "$1/set" --no-same-owner --no-same-permissions -xf - <"$1/tar" &&
         chmod -R u=rwX,go=rX,a-s,a-t -- "$1/set" && find "$1/set" ! -type f ! -type d -delete &&
         find "$1/set" -type f -exec chmod 644 {} +
 }

@@ -61,7 +61,7 @@ class Machine:
         try:
             self.text, self.errors = self.read()
             if not self.text:
-                line = self.errors.decode("latin-1").partition("\n")[0]  # why the set was refused
+                line = printable(self.errors.decode("latin-1").partition("\n")[0])  # why the set was refused
                 raise NoListing(f"refused: {line[9:]}" if line.startswith("acpidis: ") else "it is empty")
             if self.text.count(b"\n") > MOST_LINES:
                 raise NoListing(f"it has more than {MOST_LINES:,} lines")
@@ -101,9 +101,10 @@ def file_of(folder: pathlib.Path, quoted: str) -> pathlib.Path | None:
 
 
 def printable(name: str) -> str:
-    """A name of a file, with each byte that isn't UTF-8 as \\x and two digits, as the survey has it."""
+    """A name of a file, with each byte as \\x and two digits that isn't UTF-8, or of what isn't printed, as the survey has it."""
     shown = os.fsencode(name).decode("utf-8", "surrogateescape")
-    return re.sub("[\udc80-\udcff]", lambda byte: f"\\x{ord(byte[0]) & 0xFF:02X}", shown)
+    coded = lambda char: "".join(f"\\x{byte:02X}" for byte in char.encode("utf-8", "surrogateescape"))
+    return "".join(char if char.isprintable() else coded(char) for char in shown)
 
 
 def said(fault: Exception) -> str:

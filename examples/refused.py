@@ -69,8 +69,9 @@ def load_order(program, folder):
     with tempfile.TemporaryDirectory() as room:
         for name in names:
             (pathlib.Path(room) / name).write_bytes(head_of(read_file(folder, name)))
-        if (pathlib.Path(folder) / "tables.map").is_file():
-            shutil.copy(pathlib.Path(folder) / "tables.map", room)
+        there = pathlib.Path(folder) / "tables.map"
+        if there.is_file() and not there.is_symlink() and there.stat().st_size <= MOST_BYTES:
+            shutil.copy(there, room)
         done, _ = running.started([program, "--any-sum", "--", room], "replace")
         if done.returncode == 0:
             found = re.findall(r'^DefinitionBlock \("(.*)"\) \{$', done.stdout.decode(), re.MULTILINE)

@@ -4,8 +4,9 @@
     examples/show.py LISTING PATH
 
 PATH is one from the root, as \\_SB_.PCI0._PTS or \\_sb.pci0._pts, or the end of some, as _STA or PCI0._CRS: all that end so
-are shown. Each declaration comes with the lines of the blocks around it and its own lines, a method with its body, a device
-with all that is in it, a unit of a field list by itself. Behind units stand their bytes and bits.
+are shown. Each declaration comes behind the lines of the blocks around it, but for those that it shares with the one before,
+and with its own lines: a method with its body, a device with all that is in it, a unit of a field list by itself. Behind units
+stand their bytes and bits.
 
 Status 1 is a text that is no listing, or that declares no such path: then an External that names it is told, or what is like
 it; 2 is a command line that is at fault, or a file that can't be read or written.
@@ -24,9 +25,12 @@ MOST_LIKE = 8
 
 
 def shown(sheet: Sheet, ends: tuple[str, ...]) -> Iterator[str]:
-    """The declarations of the paths that end so, each with the heads of the blocks around it."""
+    """The declarations of the paths that end so, each behind the heads of the blocks around it that don't stand there yet."""
+    above: list[Line] = []
     for heads, lines in sheet.parts(lambda line: declared(line, sheet).endswith(ends)):
-        yield from (head.text for head in heads)
+        same = next((number for number, (one, other) in enumerate(zip(above, heads)) if one is not other), len(above))
+        yield from (head.text for head in heads[same:])
+        above = heads
         for line in lines:
             unit = sheet.decoder.units.get(line.number)
             yield f"{line.text}  // {bits_text(unit.bit, unit.width)}" if unit else line.text
@@ -66,10 +70,12 @@ def main() -> None:
     asked = words.parse_args()
     with command.reading(asked.listing):
         sheet = Sheet.of(command.read(asked.listing))
-    lines = list(shown(sheet, asked.path))
-    if not lines:
+    is_there = False
+    for line in shown(sheet, asked.path):
+        is_there = True
+        print(line)
+    if not is_there:
         command.refuse(f"{asked.listing!r} declares no such path{other(sheet, asked.path)}")
-    print(*lines, sep="\n")
 
 
 if __name__ == "__main__":

@@ -9,6 +9,7 @@ import functools
 import itertools
 import os
 import re
+import resource
 import shlex
 
 from tally import TOP, Tally, asked, ended, executable, parts_in, timed, written
@@ -108,6 +109,11 @@ class Tries(Tally):
         found = self.run("refused.py", "noted")
         self.is_so("the text of acpidump", "Way on: `acpidis-unpack FILE FOLDER`" in found.out and not found.err)
         self.fills_disk("refused.py", "twice")
+        (self.room / "long.map").write_bytes(bytes(2_000_000))
+        (self.room / "twice/tables.map").symlink_to("../long.map")
+        found = super().run("refused.py", "twice", preexec_fn=lambda: resource.setrlimit(resource.RLIMIT_FSIZE, (10**6, 10**6)))
+        self.is_so("a map that is a link", "Way on: " in found.out and not found.err)
+        (self.room / "twice/tables.map").unlink()
         end, closed = os.pipe()
         os.close(end)
         found = super().run("missing.py", "ejects", stdout=closed)

@@ -149,6 +149,10 @@ class Checks(Tally):
         made = self.run("facts.py", "--json", "--dumps", "sets", "texts").out
         lines = [json.loads(line) for line in made.splitlines()]
         self.is_same("lines of JSON", {name: sum(line["fact"] == name for line in lines) for name in COLUMNS}, counts)
+        written(self.room / "odd/a\x1b[2J\nb", {"text": b"", "errors": b"acpidis: \x1b[2J\r"})
+        ran = self.run("facts.py", "odd", "odd.facts")
+        shown = (ran.status, r"the last, a\x1B[2J\x0Ab: refused: \x1B[2J\x0D" in ran.err, ran.err.count("\n"), "\x1b" in ran.err)
+        self.is_same("control characters", shown, (3, True, 1, False))
         written(self.room / "flat", dict.fromkeys(("one", "two"), (self.room / "texts/rack/a/text").read_bytes()))
         self.run("facts.py", "flat", "flat.facts")
         names = {(line["id"], line["path"]) for line in lines if line["fact"] == "name"}

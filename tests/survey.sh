@@ -195,6 +195,8 @@ loud) head -c 100000 /dev/zero | tr '\\0' x >&2; printf '\\nno \\033[31mway\\007
 odd*) exec tar -C '$work/odd' -cf - . ;;
 packed) exec tar -C '$work/zeros' -czf - . ;;
 many) exec tar -C '$work/crowd' -cf - . ;;
+sparse) exec tar -S -C '$work/holes' -cf - . ;;
+deep) exec tar -C '$work/levels' -cf - . ;;
 *) echo first >&2; echo "no way to \$2" >&2; exit 255 ;;
 esac
 S
@@ -233,13 +235,16 @@ mkdir zeros crowd
 head -c 900000 /dev/zero >zeros/one
 cp zeros/one zeros/two
 (cd crowd && seq 4200 | xargs touch)
+mkdir -p holes "levels/$(printf 'd/%.0s' 1 2 3 4 5 6 7 8 9 10 11 12 13 14 15 16 17)"
+truncate -s 40M holes/one holes/two
 printf '%s\n' large loud odd1 >hosts
 PATH=$work/commands:$PATH COLLECT_MEGABYTES=1 "$collect" hosts collected 2>errors
 is 'too much, and control bytes' "$(LC_ALL=C sort errors)" $'large: more than 1 MB\nloud: no [31mway'
-printf '%s\n' packed many >hosts
+printf '%s\n' packed many sparse deep >hosts
 PATH=$work/commands:$PATH "$collect" hosts collected 2>errors
-is 'what is packed, and too many files' "$(cut -d : -f 1 errors | LC_ALL=C sort | tr '\n' ' ')" 'many packed '
-is 'so many files' "$(grep many errors)" 'many: more than 4096 files'
+is 'what is packed, and too many files' "$(cut -d : -f 1 errors | LC_ALL=C sort | tr '\n' ' ')" 'deep many packed sparse '
+is 'why' "$(grep -v packed errors | LC_ALL=C sort)" \
+    $'deep: folders that are too deep\nmany: more than 4096 files\nsparse: files of more than 64 MB'
 is 'regular files alone' "$(cd collected/odd1 && find . -printf '%p %m|' | tr '|' '\n' | LC_ALL=C sort | tr '\n' ' ')" \
     '. 755 ./dsdt.dat 644 ./shut 755 ./shut/dsdt.dat 644 '
 # shellcheck disable=SC2012 # the names are known
