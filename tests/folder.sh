@@ -164,6 +164,7 @@ if [ -w /dev/full ]; then
         echo $? >status
         cut_off "a full standard output, $words" 0
     done
+    row 'a version and a full standard output' 4 'acpidis: write failed' sh -c './program --version >/dev/full'
     row 'a refusal and a full standard output' 1 'acpidis: table "ssdt1.dat": BadSum' sh -c './program summed >/dev/full'
 fi
 

@@ -23,6 +23,9 @@ const COMMAND_LINE: u8 = 2;
 /// The status where the folder can't be read, or memory is short.
 const REFUSED: u8 = 1;
 
+/// The status where standard output takes no more.
+const UNWRITTEN: u8 = 4;
+
 /// The stack on which all is read, printed and checked, whatever the system's own limit is. The deepest tables need
 /// about 1 MB of it.
 const STACK_BYTES: usize = 8 << 20;
@@ -67,6 +70,10 @@ fn status_of<T: Threads + Wait + Sync>(rt: &HostRuntime, threads: &T) -> u8 {
             Err(_) => run_folder(rt, threads, &line, &mut rt.stderr()),
         },
         Err(Stop::Shown) => 0,
+        Err(Stop::Unwritten) => {
+            let _ = eprintln!(rt; "acpidis: write failed");
+            UNWRITTEN
+        }
         Err(Stop::Refused) => COMMAND_LINE,
         Err(Stop::NoMemory) => {
             let _ = eprintln!(rt; "acpidis: NoMemory");

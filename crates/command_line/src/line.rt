@@ -46,6 +46,8 @@ pub struct CommandLine {
 pub enum Stop {
     /// Help or the version was asked for, and printed.
     Shown,
+    /// The same, but standard output didn't take it.
+    Unwritten,
     /// The line has a fault, which was printed.
     Refused,
     /// A growth was refused.
@@ -71,14 +73,11 @@ pub fn read(rt: &HostRuntime, version: &str) -> Result<CommandLine, Stop>
     match parse(alloc, version, words.as_slice()) {
         Ok(line) => Ok(line),
         Err(error) if error.kind() == ErrorKind::OutOfMemory => Err(Stop::NoMemory),
-        Err(error) => {
-            let _ = error.print(rt);
-            if error.use_stderr() {
-                Err(Stop::Refused)
-            } else {
-                Err(Stop::Shown)
-            }
-        }
+        Err(error) => Err(match error.print(rt) {
+            _ if error.use_stderr() => Stop::Refused,
+            Ok(()) => Stop::Shown,
+            Err(_) => Stop::Unwritten,
+        }),
     }
 }
 
