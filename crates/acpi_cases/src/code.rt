@@ -47,7 +47,8 @@ pub fn push_body(
     requires { length code.now ≤ 16777216 }
 {
     let count = count_of(count);
-    push_body_of(alloc, out, &Each { count }, &Path::root(alloc), code)
+    let read = parse_body(alloc, code, &Each { count }, &Path::root(alloc));
+    push_read(alloc, out, code, read)
 }
 
 /// The text of each term of a body by itself, in which each name takes so many arguments.
@@ -79,17 +80,16 @@ fn push_each_text(alloc: Global, out: &mut String, nodes: &[Node]) -> Result<(),
     Ok(())
 }
 
-/// The terms of a method's body.
-pub fn push_body_of<A: Arity>(
+/// The terms that code was read as, or why it can't be.
+pub fn push_read(
     alloc: Global,
     out: &mut String,
-    arity: &A,
-    method: &Path,
     code: &[u8],
+    read: Result<Vec<Node>, CodeFault>,
 ) -> Result<(), AllocError>
     requires { length code.now ≤ 16777216 }
 {
-    match parse_body(alloc, code, arity, method) {
+    match read {
         Err(fault) => push_fault(out, fault),
         Ok(nodes) => push_terms(alloc, out, code, &nodes),
     }

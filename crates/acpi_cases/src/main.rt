@@ -28,27 +28,17 @@ fn main(rt: HostRuntime) -> io::Result<()> {
 /// Each row, and below it what it is read as.
 fn push_text(alloc: Global, out: &mut String, rows: &[String]) -> Result<(), AllocError> {
     let mut cases = Cases::new(alloc)?;
-    push_rows(alloc, out, &mut cases, rows)
+    push_rows(out, &mut cases, rows)
 }
 
-fn push_rows(
-    alloc: Global,
-    out: &mut String,
-    cases: &mut Cases,
-    rows: &[String],
-) -> Result<(), AllocError> {
+fn push_rows(out: &mut String, cases: &mut Cases, rows: &[String]) -> Result<(), AllocError> {
     for row in rows {
-        push_row(alloc, out, cases, row)?;
+        push_row(out, cases, row)?;
     }
     Ok(())
 }
 
-fn push_row(
-    alloc: Global,
-    out: &mut String,
-    cases: &mut Cases,
-    row: &str,
-) -> Result<(), AllocError> {
+fn push_row(out: &mut String, cases: &mut Cases, row: &str) -> Result<(), AllocError> {
     writeln!(out, "{row}")?;
-    cases.push_answer(alloc, out, row)
+    cases.push_answer(out, row)
 }

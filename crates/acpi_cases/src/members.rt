@@ -102,19 +102,11 @@ fn push_found(
     writeln!(out, "  {right} found by 1 to 64 comparisons")
 }
 
-/// What is asked of so many methods, once this namespace has them.
-fn push_of(
-    alloc: Global,
-    out: &mut String,
-    space: &mut Space,
-    asked: &str,
-    count: usize,
-) -> Result<(), AllocError> {
-    declare_all(alloc, space, count)?;
-    match asked {
-        "many_rows" => push_places(out, space, count),
-        _ => push_found(alloc, out, space, count),
-    }
+/// A namespace of so many methods.
+fn space_of(alloc: Global, count: usize) -> Result<Space, AllocError> {
+    let mut space = Space::new(alloc)?;
+    declare_all(alloc, &mut space, count)?;
+    Ok(space)
 }
 
 /// What is asked of a namespace of so many methods.
@@ -124,6 +116,9 @@ pub fn push_many(
     asked: &str,
     count: usize,
 ) -> Result<(), AllocError> {
-    let mut space = Space::new(alloc)?;
-    push_of(alloc, out, &mut space, asked, count)
+    let space = space_of(alloc, count)?;
+    match asked {
+        "many_rows" => push_places(out, &space, count),
+        _ => push_found(alloc, out, &space, count),
+    }
 }

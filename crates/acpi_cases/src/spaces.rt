@@ -1,9 +1,10 @@
 //! Rows of namespaces: what is declared, where names lead, and how many arguments they take.
 ghost use Rattle.std.specs.Prelude.{◌≤◌, length};
 
-use crate::code::push_body_of;
+use crate::code::push_read;
 use crate::lines::{Line, count_of, first_word};
 use aml_names::{Arity, Locals, Name, NameForm, Path, Seg, Segs, place};
+use aml_parse::parse_body;
 use aml_space::{BodyScope, Kind, Space, SpacePath, SpaceRow};
 use std::alloc::{AllocError, Global};
 use std::fmt::Write;
@@ -57,106 +58,87 @@ pub fn add(
 /// A namespace, and the paths that a body has declared.
 #[derive(Clone, Copy)]
 pub struct Names<'n> {
+    pub alloc: Global,
     pub space: &'n Space,
     pub locals: &'n Locals,
 }
 
+/// A name in a scope.
+#[derive(Drop)]
+struct Asked {
+    scope: Path,
+    name: Name,
+}
+
 impl Names<'_> {
     /// Where a name leads from a scope, or how many arguments it takes in a method's body.
-    pub fn push_lead(
-        &self,
-        alloc: Global,
-        out: &mut String,
-        line: Line<'_>,
-    ) -> Result<(), AllocError> {
+    pub fn push_lead(&self, out: &mut String, line: Line<'_>) -> Result<(), AllocError> {
         let (scope, name) = first_word(line.words);
-        let scope = path_of(alloc, scope)?;
-        let name = name_of(alloc, name)?;
-        self.push_answer(alloc, out, line.kind, &scope, &name)
+        let asked = Asked {
+            scope: path_of(self.alloc, scope)?,
+            name: name_of(self.alloc, name)?,
+        };
+        self.push_answer(out, line.kind, &asked)
     }
 
-    fn push_answer(
-        &self,
-        alloc: Global,
-        out: &mut String,
-        asked: &str,
-        scope: &Path,
-        name: &Name,
-    ) -> Result<(), AllocError> {
-        match asked {
-            "arity" => self.push_arity(alloc, out, scope, name, false),
-            "arity_unknown_zero" => self.push_arity(alloc, out, scope, name, true),
+    fn push_answer(&self, out: &mut String, way: &str, asked: &Asked) -> Result<(), AllocError> {
+        match way {
+            "arity" => self.push_arity(out, asked, false),
+            "arity_unknown_zero" => self.push_arity(out, asked, true),
             way => {
-                let path = self.led_path(alloc, way, scope, name)?;
+                let path = self.led_path(way, asked)?;
                 push_path(out, path.as_ref())
             }
         }
     }
 
     /// Where a name leads from a scope.
-    fn led_path(
-        &self,
-        alloc: Global,
-        way: &str,
-        scope: &Path,
-        name: &Name,
-    ) -> Result<Option<Path>, AllocError> {
+    fn led_path(&self, way: &str, asked: &Asked) -> Result<Option<Path>, AllocError> {
+        let Asked { scope, name } = asked;
         match way {
-            "place" => place(alloc, scope, name),
-            "find" => self.space.find(alloc, scope, name),
-            "lead" => self.space.lead(alloc, scope, name),
-            _ => self.space.search(alloc, self.locals, scope, name),
+            "place" => place(self.alloc, scope, name),
+            "find" => self.space.find(self.alloc, scope, name),
+            "lead" => self.space.lead(self.alloc, scope, name),
+            _ => self.space.search(self.alloc, self.locals, scope, name),
         }
     }
 
     /// How many arguments a name takes in the body of a method.
     fn push_arity(
         &self,
-        alloc: Global,
         out: &mut String,
-        method: &Path,
-        name: &Name,
+        asked: &Asked,
         unknown_zero: bool,
     ) -> Result<(), AllocError> {
         let scope = BodyScope {
             space: self.space,
-            method,
+            method: &asked.scope,
             unknown_zero,
         };
-        push_count(out, scope.count(alloc, self.locals, name)?)
+        push_count(out, scope.count(self.alloc, self.locals, &asked.name)?)
     }
 
     /// The terms of the body of a method.
-    pub fn push_body(
-        &self,
-        alloc: Global,
-        out: &mut String,
-        method: &str,
-        code: &[u8],
-    ) -> Result<(), AllocError>
+    pub fn push_body(&self, out: &mut String, method: &str, code: &[u8]) -> Result<(), AllocError>
         requires { length code.now ≤ 16777216 }
     {
-        let method = path_of(alloc, method)?;
+        let method = path_of(self.alloc, method)?;
         let scope = BodyScope {
             space: self.space,
             method: &method,
             unknown_zero: false,
         };
-        push_body_of(alloc, out, &scope, &method, code)
+        let read = parse_body(self.alloc, code, &scope, &method);
+        push_read(self.alloc, out, code, read)
     }
 
     /// What is known of a path.
-    pub fn push_known(
-        &self,
-        alloc: Global,
-        out: &mut String,
-        line: Line<'_>,
-    ) -> Result<(), AllocError> {
-        let path = path_of(alloc, line.words)?;
+    pub fn push_known(&self, out: &mut String, line: Line<'_>) -> Result<(), AllocError> {
+        let path = path_of(self.alloc, line.words)?;
         match line.kind {
             "count" => push_count(out, self.space.count(&path)),
-            "kind" => self.push_kind(alloc, out, &path),
-            "counted" => self.push_counted(alloc, out, &path),
+            "kind" => self.push_kind(out, &path),
+            "counted" => self.push_counted(out, &path),
             "is_local" => self.push_local(out, &path),
             "scope" => self.push_scope(out, &path),
             "alias" => self.push_alias(out, &path),
@@ -164,14 +146,14 @@ impl Names<'_> {
         }
     }
 
-    fn push_kind(&self, alloc: Global, out: &mut String, path: &Path) -> Result<(), AllocError> {
-        push_row_or_none(alloc, out, path, self.space.kind(path))
+    fn push_kind(&self, out: &mut String, path: &Path) -> Result<(), AllocError> {
+        push_row_or_none(self.alloc, out, path, self.space.kind(path))
     }
 
     /// The same, and whether it was found by some comparisons, but at most 64 a segment.
-    fn push_counted(&self, alloc: Global, out: &mut String, path: &Path) -> Result<(), AllocError> {
+    fn push_counted(&self, out: &mut String, path: &Path) -> Result<(), AllocError> {
         let (kind, compared) = self.space.kind_counted(path);
-        push_row_or_none(alloc, out, path, kind)?;
+        push_row_or_none(self.alloc, out, path, kind)?;
         let most = 64 * path.segs().len() as u128;
         let said = if compared == 0 {
             "no"
@@ -291,7 +273,7 @@ pub fn push_rows(alloc: Global, out: &mut String, space: &Space) -> Result<(), A
 
 fn push_each(out: &mut String, rows: &[SpaceRow]) -> Result<(), AllocError> {
     for row in rows {
-        push_marked(out, &row.path, &row.kind, row.sure, row.times)?;
+        push_marked(out, row)?;
     }
     Ok(())
 }
@@ -306,9 +288,13 @@ pub fn push_row_at(
     match space.row_at(place) {
         None => out.push_str("  none\n"),
         Some(row) => {
-            let path = row.path().to_path(alloc)?;
-            let kind = own_kind(alloc, &row.kind())?;
-            push_marked(out, &path, &kind, row.is_sure(), row.times())
+            let marked = SpaceRow {
+                path: row.path().to_path(alloc)?,
+                kind: own_kind(alloc, &row.kind())?,
+                sure: row.is_sure(),
+                times: row.times(),
+            };
+            push_marked(out, &marked)
         }
     }
 }
@@ -335,23 +321,18 @@ fn own_kind(alloc: Global, kind: &Kind<SpacePath<'_>>) -> Result<Kind<Path>, All
 }
 
 fn push_row(out: &mut String, path: &Path, kind: &Kind<Path>) -> Result<(), AllocError> {
-    push_marked(out, path, kind, true, 1)
+    push_kind(out, path, kind)?;
+    out.push_str("\n")
 }
 
 /// A declared path, with the marks of one that only may stand, or that is declared several times.
-fn push_marked(
-    out: &mut String,
-    path: &Path,
-    kind: &Kind<Path>,
-    sure: bool,
-    times: usize,
-) -> Result<(), AllocError> {
-    push_kind(out, path, kind)?;
-    if !sure {
+fn push_marked(out: &mut String, row: &SpaceRow) -> Result<(), AllocError> {
+    push_kind(out, &row.path, &row.kind)?;
+    if !row.sure {
         out.push_str(" Maybe")?;
     }
-    if times > 1 {
-        write!(out, " Times {times}")?;
+    if row.times > 1 {
+        write!(out, " Times {}", row.times)?;
     }
     out.push_str("\n")
 }
