@@ -33,6 +33,7 @@ from acpidis_tools.listing import NoListing, path_of, path_text
 TOLD = 3
 # What all blocks together have no more Externals than, of what they don't use.
 MOST_EXTERNALS = 200_000
+MOST_LINES = 8
 # A text that is to be written: the table that it is of, its lines, and what ASL can't spell
 Made = namedtuple("Made", "table lines told")
 
@@ -58,8 +59,9 @@ def check_method(path, found, reader):
         where = f": name it from the root, as {ends[0]}; acpidis-show has all that end so" if ends else ""
         raise NoListing(f"it declares no method {path}{where}")
     if len(found) > 1:
-        lines = ", ".join(str(method.line.number) for method in found)
-        raise NoListing(f"it declares {path} on the lines {lines}: change the table as a whole, with --edit")
+        lines = ", ".join(str(method.line.number) for method in found[:MOST_LINES])
+        more = f" and {len(found) - MOST_LINES:,} more" if len(found) > MOST_LINES else ""
+        raise NoListing(f"it declares {path} on the lines {lines}{more}: change the table as a whole, with --edit")
     if not found[0].has_terms:
         raise NoListing(f"line {found[0].line.number}: the body of {path} is raw: it has no terms to be changed")
 

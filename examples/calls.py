@@ -40,11 +40,13 @@ def calls(text):
         if line.method is not own_of:
             own, own_of = set(), line.method
         # The names that stand as targets or objects
-        found = [it for it in places(terms_in(line.pieces)) if NAME.fullmatch(it[0].word)]
-        for operator, name in ((place.within.word, term.word) for term, place in found if place.kind == "S"):
+        found = [it for it in places(terms_in(line.pieces)) if it[1].kind == "S" and NAME.fullmatch(it[0].word)]
+        scope, shown = path_text(line.scope), line.bare[:SHOWN]
+        passed_over = () if not found or behind and running.is_lone(behind, space) else OF_METHODS
+        for operator, name in ((place.within.word, term.word) for term, place in found):
             counts = [kind for kind in space.may_be(line.scope, name, own) if isinstance(kind, int)]
-            if any(counts) and (operator not in OF_METHODS or behind and running.is_lone(behind, space)):
-                yield path_text(line.scope), name, max(counts), operator, line.bare
+            if any(counts) and operator not in passed_over:
+                yield scope, name, max(counts), operator, shown
         declared = DECLARED.match(line.bare) if line.method else None
         if declared:
             own.add(space.place(line.scope, next(filter(None, declared.groups()))))
@@ -74,7 +76,7 @@ def main():
     run = listing_of(command.parse(command.parser(__doc__, "FOLDER", usage="%(prog)s [OPTION..] FOLDER")))
     found = list(calls(run.listing))
     for scope, name, count, operator, line in found:
-        print(f"{scope}: {name} takes {count}, in {operator}: {line[:SHOWN]}")
+        print(f"{scope}: {name} takes {count}, in {operator}: {line}")
     if run.raw:
         bodies = "1 raw body isn't" if len(run.raw) == 1 else f"{len(run.raw)} raw bodies aren't"
         command.tell(f"{bodies} looked through")

@@ -5,8 +5,8 @@
 
 Offsets count from the first byte behind a table's header, bytes from the first of the file. The terms are read by a
 reader of this folder, from the left and as far as it can; what they mean the program alone says. Each OPTION is one of
-acpidis, but not --check. ACPIDIS names another program. Status 0 is a set that isn't refused, 1 one that is, 2 a
-command line, a program or an output that is at fault.
+acpidis, but not --check. ACPIDIS names another program. Status 0 is a set that isn't refused, 1 one that is, or of which
+acpidis writes more than 64 MB, 2 a command line, a program or an output that is at fault.
 """
 
 import itertools

@@ -24,31 +24,30 @@ HEADER, SUM, OEM_REVISION = aml.HEADER, 9, 24
 # The terms with a scope of their own, so that names inside mean the same wherever they stand.
 SCOPED = aml.OPENERS | {"Method"}
 ARCHIVE = "kernel/firmware/acpi"
-# Where a path is declared: the term's word, the byte behind its name, and the one behind it; the path of the scope that
+# Where a path is declared: the term's word, the byte behind its name, and the one behind it; the node of the scope that
 # it stands in, and the package lengths around it, the outer first, with its own where it has one
 Place = namedtuple("Place", "word named end scope lengths")
 
 
 class Reader(aml.Reader):
-    """Keeps where each path is declared."""
+    """Keeps where a path is declared first, and how many times it is."""
 
-    def __init__(self, code):
+    def __init__(self, code, path):
         super().__init__("", code, aml.Space(len(code)))
-        self.found, self.packages = {}, []
+        self.asked, self.place, self.times, self.packages = self.space.node(path), None, 0, []
 
     def operation(self, term, kinds, at, end, kind, level):
         scope, around, start = self.scope, len(self.packages), at
         if kinds[:1] == "P":
             self.packages.append(at)
             start += self.length(at, end)[1]
-        lengths = list(self.packages)
         made, after = super().operation(term, kinds, at, end, kind, level)
-        del self.packages[around:]
         if kind == "R" and term.word in aml.DECLARERS and term.word not in aml.NAMED_LAST:
             name, named = self.name(start, len(self.code))
-            node = self.space.place(scope, name)
-            if node:
-                self.found.setdefault(node.path(), []).append(Place(term.word, named, after, scope.path(), lengths))
+            if self.space.place(scope, name) is self.asked:
+                self.place = self.place or Place(term.word, named, after, scope, list(self.packages))
+                self.times += 1
+        del self.packages[around:]
         return made, after
 
 
@@ -61,15 +60,14 @@ def code_of(dump, file):
 
 def place_in(code, path, file):
     """Where the one declaration of a path is."""
-    reader = Reader(code)
+    reader = Reader(code, path)
     stopped = reader.read()
     if stopped < len(code):
         raise Refused(f"{file!r} can't be read behind byte {HEADER + stopped}")
-    found = reader.found.get(path, [])
-    if len(found) != 1:
+    if reader.times != 1:
         none = f"{file!r} doesn't declare {path} by a term of its own, as a unit of a field list has none"
-        raise Refused(f"{file!r} declares {path} {len(found)} times" if found else none)
-    return found[0]
+        raise Refused(f"{file!r} declares {path} {reader.times} times" if reader.times else none)
+    return reader.place
 
 
 def spelled(value, width):
@@ -87,7 +85,7 @@ def spliced(code, place, content):
     grown = len(content) - (place.end - place.named)
     code = code[: place.named] + content + code[place.end :]
     for at in reversed(place.lengths):
-        value, width = Reader(code).length(at, len(code))
+        value, width = aml.Reader("", code, aml.Space(0)).length(at, len(code))
         again = spelled(value + grown, width)
         again = spelled(value + grown + len(again) - width, len(again))
         code = code[:at] + again + code[at + width :]
@@ -101,9 +99,9 @@ def patched(dump, new, path, files):
     place, source = place_in(code, path, files[0]), place_in(other, path, files[1])
     if place.word != source.word:
         raise Refused(f"{path} is a {place.word} in {files[0]!r}, and a {source.word} in {files[1]!r}")
-    if place.word not in SCOPED and place.scope != source.scope:
-        scopes = f"{place.scope} of {files[0]!r}, and in {source.scope} of {files[1]!r}"
-        raise Refused(f"{path} stands in the scope {scopes}")
+    here, there = place.scope.path(), source.scope.path()
+    if place.word not in SCOPED and here != there:
+        raise Refused(f"{path} stands in the scope {here} of {files[0]!r}, and in {there} of {files[1]!r}")
     return sealed(dump[:HEADER] + spliced(code, place, other[source.named : source.end]))
 
 

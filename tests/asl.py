@@ -292,6 +292,11 @@ class Checks(Tally):
             said = f"acpidis-splice: {file!r} is {what}: name another"
             self.is_same(f"splice {words}", (ran.status, ran.err.splitlines()[-1]), (2, said))
         self.is_same("DUMP and NEW stay", [(self.room / it).read_bytes() for it in (old, new)], [files["old"], files["new"]])
+        deep = table(b"DSDT", shapes.within(51_000, shapes.named(300) + shapes.name(b"\\MINE")))
+        (self.room / "deep").write_bytes(deep)
+        words = [SPLICE, "deep", "deep", "MINE"]
+        _, seconds = timed(self.says, "deep", words, 0, b"", deep, errors=None, most=2)
+        self.is_so(f"a scope of 51,000 segments: {seconds} s", seconds < 2)
         (self.room / "led").write_bytes(b"")
         (self.room / "link").symlink_to("led")
         self.says("through a link", [SPLICE, "-o", "link", old, new, "NAM1"], 0, "", "")

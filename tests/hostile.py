@@ -111,6 +111,7 @@ class Checks(Tally):
             self.text("text", text)
             trials = ["page.py text", "facts.py --jobs 1 text facts", "asl.py --edit text asl"]
             trials += ["calls.py .", "missing.py ."] if LOOKED_FOR.search(what) else []
+            trials += ["asl.py --method AAAA text asl"] if "methods" in what else []
             for script, *words in map(str.split, trials):
                 name = script.removesuffix(".py")
                 with open(self.room / "printed", "w+b") as printed:

@@ -8,7 +8,7 @@ from collections import defaultdict
 from collections.abc import Iterator
 
 from acpidis_tools.comparison import text_of, texts_of
-from acpidis_tools.decoding import Decoder, flag_words, hardware_name
+from acpidis_tools.decoding import Decoder, hardware_name
 from acpidis_tools.errors import Fault, name_at
 from acpidis_tools.listing import HEADER, Block, Dump, Line, Listing, Name, Path, path_of, path_text
 from acpidis_tools.names import FIELD_LISTS, PREDEFINED, Meaning, Names, Sort
@@ -275,14 +275,13 @@ class Collector:
     def add_statements(self, line: Line) -> None:
         if STATEMENTS.keys().isdisjoint(line.words):
             return
-        meanings = self.decoder.meanings(line)
+        meanings, scope, text = self.decoder.meanings(line), path_text(line.scope), line.bare[:LONGEST_STATEMENT]
         for term, _ in places(self.decoder.terms(line)):
             if term.word in STATEMENTS:
                 named, counted = (term.argument(at) if at is not None else None for at in STATEMENTS[term.word])
                 name = self.row_of(meanings.get(named.place)) if named else None
-                number, text = small(counted.number) if counted else None, line.bare[:LONGEST_STATEMENT]
-                values = term.word, name, number, text, self.file, line.number
-                self.add("statement", self.method, path_text(line.scope), *values)
+                number = small(counted.number) if counted else None
+                self.add("statement", self.method, scope, term.word, name, number, text, self.file, line.number)
 
     def how(self, term: Term, place: Place, meant: Meaning) -> str:
         """What becomes of what a name means: it is called, read, written, passed on, or named."""
@@ -300,14 +299,11 @@ class Collector:
     def add_field(self, line: Line) -> None:
         unit = self.decoder.units.get(line.number)
         if unit:
-            _, lock, update = flag_words(self.decoder.terms(unit.head))
             # The region of the list; of an IndexField the anchor of its data, whose region it has
-            is_index = unit.head.term == "IndexField"
-            meaning = self.decoder.meanings(unit.head).get(2 if is_index else 1)
-            region = self.regions.get(meaning.anchor) if meaning and not is_index else None
-            behind = meaning.anchor if meaning and is_index else ""
+            is_index, anchor = unit.head.term == "IndexField", unit.region.anchor if unit.region else ""
+            region, behind = (None, anchor) if is_index else (self.regions.get(anchor), "")
             self.field_regions.setdefault(self.declared(line)[0], region)
-            values = [region, unit.head.term, unit.bit, unit.width, unit.access, lock, update]
+            values = [region, unit.head.term, unit.bit, unit.width, unit.access, *unit.rules]
         elif line.term.startswith("Create") and line.declared is not None:
             behind, values = "", [None, line.term, *map(small, self.decoder.bits_of(line)), None, None, None]
         else:
@@ -356,8 +352,9 @@ class Collector:
         return path_text(paths[0]) if paths else source
 
     def add_identifiers(self, line: Line) -> None:
+        kind = hardware_name(line)
         for text in self.decoder.identifiers(line):
-            values = hardware_name(line), text, eisa_number(text), DEVICE_NAMES.get(text), self.file, line.number
+            values = kind, text, eisa_number(text), DEVICE_NAMES.get(text), self.file, line.number
             self.add("identifier", self.device_of(line), *values)
 
 

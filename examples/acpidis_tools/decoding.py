@@ -27,8 +27,9 @@ FIELD_BITS = {
     "CreateBitField": (1, 1), "CreateByteField": (8, 8), "CreateWordField": (16, 8), "CreateDWordField": (32, 8),
     "CreateQWordField": (64, 8),
 }
-# A unit of a field list: the line of that, its first bit, width and access, and the line before it that sets this
-Unit = namedtuple("Unit", "head bit width access behind")
+# A unit of a field list: the line of that, what the name of its region means, or of its data, its lock and update rule; the
+# unit's first bit, width and access, and the line before it that sets this
+Unit = namedtuple("Unit", "head region rules bit width access behind")
 
 
 class Template(namedtuple("Template", "descriptors patches")):
@@ -54,10 +55,11 @@ class Decoder:
             self.read(block.lines)
 
     def read(self, lines: list[Line]) -> None:
-        access, bit, behind = "", 0, None
+        access, rules, bit, region, behind = "", [], 0, None, None
         for line in lines:
             if line.term in FIELD_LISTS:
-                access, bit, behind = flag_words(self.terms(line))[0], 0, None
+                access, *rules = flag_words(self.terms(line))
+                bit, region, behind = 0, self.meanings(line).get(2 if line.term == "IndexField" else 1), None
             elif line.term and line.above and line.above.term in FIELD_LISTS:
                 if line.term in ("Access", "ExtendedAccess", "Connection"):
                     behind = line
@@ -67,7 +69,7 @@ class Decoder:
                 form = UNIT.fullmatch(line.pieces[-1])
                 width = int(form[1]) if form else 0
                 if line.declared == FIRST_WORD:
-                    self.units[line.number] = Unit(line.above, bit, width, access, behind)
+                    self.units[line.number] = Unit(line.above, region, rules, bit, width, access, behind)
                 bit += width
             elif line.term.startswith("Create"):
                 source, (first, bits) = self.argument(line, 0), self.bits_of(line)
@@ -169,7 +171,8 @@ class Decoder:
 
     def notes(self, line: Line) -> list[str]:
         """What to say behind a line, in a few words each."""
-        notes = [note for note in map(with_name, self.identifiers(line)) if f'"{note}"' not in line.words]
+        words = set(line.words)
+        notes = [note for note in map(with_name, self.identifiers(line)) if f'"{note}"' not in words]
         notes += [f"UUID {with_name(text, UUID_NAMES)}" for text in self.uuids(line)]
         if line.number in self.units:
             unit = self.units[line.number]

@@ -3,6 +3,7 @@
 import os
 import pathlib
 import re
+import select
 import shutil
 import subprocess
 from collections import namedtuple
@@ -14,6 +15,8 @@ from acpidis_tools.listing import NAME, ROOT, Name, NoListing, path_of, read_lis
 LAUNCHER = pathlib.Path(__file__).resolve().parents[2] / "acpidis"
 # Beside the script, where it is installed
 BIN = LAUNCHER.parents[1] / "bin"
+# What the program may write: a listing of so many bytes takes a minute and 1 GB. It is read in parts.
+MOST_BYTES, PART = 64_000_000, 65_536
 # A name is looked for in each scope around it, which a hostile set could make many.
 MOST_SEGMENTS = 64
 METHOD = re.compile(r"Method \((\S+), ([0-7]), ")
@@ -183,10 +186,27 @@ class Listing:
 def started(words, errors):
     """How the program ends with these words, and the lines of its standard error."""
     try:
-        done = subprocess.run(words, stdin=subprocess.DEVNULL, capture_output=True, check=False)
-        return done, done.stderr.decode(errors=errors).splitlines()
+        with subprocess.Popen(words, stdin=subprocess.DEVNULL, stdout=subprocess.PIPE, stderr=subprocess.PIPE) as program:
+            out, err = texts_of(program)
+        return subprocess.CompletedProcess(words, program.returncode, out), err.decode(errors=errors).splitlines()
     except (OSError, ValueError) as fault:
         raise Unusable(f"cannot run {words[0]}: {fault}") from fault
+
+
+def texts_of(program):
+    """What a program writes to standard output and to standard error. One that writes too much is ended."""
+    texts = {program.stdout: bytearray(), program.stderr: bytearray()}
+    waiting = list(texts)
+    while waiting and sum(map(len, texts.values())) <= MOST_BYTES:
+        for stream in select.select(waiting, [], [])[0]:
+            part = os.read(stream.fileno(), PART)
+            texts[stream] += part
+            if not part:
+                waiting.remove(stream)
+    if waiting:
+        program.kill()
+        raise Refused(f"acpidis writes more than {MOST_BYTES:,} bytes, which are too many for this script")
+    return texts.values()
 
 
 def ended(words, errors="strict"):

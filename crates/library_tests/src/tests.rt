@@ -6,6 +6,7 @@ mod listings;
 mod loads;
 mod memory;
 mod nesting;
+mod rows;
 mod starts;
 mod tables;
 mod telling;

@@ -84,8 +84,7 @@ class Block:
         found = []
         for (line, path), has_terms in zip(self.methods, self.bodies):
             if path == wanted and not (found and line.number < found[-1].line.end):
-                told = [it for it in self.unspelled if line.number < it[0] < line.end]
-                found.append(Found(self, self.table, line, path, told, has_terms))
+                found.append(Found(self, self.table, line, path, has_terms))
         return found
 
     def text(self, rows, said):
@@ -107,8 +106,12 @@ def around(head, lines, *about):
     return [head, *wanted, *lines, *([OTHERS, *others] if others else []), "}"]
 
 
-class Found(namedtuple("Found", "block table line path told has_terms")):
+class Found(namedtuple("Found", "block table line path has_terms")):
     """A method of a listing, as a definition block with nothing else."""
+
+    @property
+    def told(self):
+        return [it for it in self.block.unspelled if self.line.number < it[0] < self.line.end]
 
     def text(self, rows, said):
         names, first, end = self.block.names, self.line.number, self.line.end
