@@ -8,6 +8,7 @@ import hashlib
 import pathlib
 import re
 from html import escape
+from string import Template
 
 from acpidis_tools.comparison import differences
 from acpidis_tools.errors import raw_lines
@@ -141,48 +142,23 @@ def title_of(listing: Listing) -> str:
     return " ".join(filter(None, (text[1:-1].replace("\\x00", "").strip() for text in texts)))
 
 
-def head_html(sheet: Sheet, style: str, script: str) -> str:
-    digest = base64.b64encode(hashlib.sha256(script.encode()).digest()).decode()
-    policy = f"default-src 'none'; style-src 'unsafe-inline'; script-src 'sha256-{digest}'; base-uri 'none'"
-    title = ": ".join(filter(None, (sheet.name, title_of(sheet.listing)))) or "ACPI tables"
-    return (
-        '<!DOCTYPE html>\n<html lang="en">\n<head>\n<meta charset="utf-8">\n'
-        f'<meta http-equiv="Content-Security-Policy" content="{policy}">\n'
-        '<meta name="viewport" content="width=device-width, initial-scale=1">\n'
-        f"<title>{escape(title)}</title>\n<style>\n{style}</style>\n</head>\n<body>\n"
-        "<a class=skip href=#main>Skip to the text</a>\n"
-    )
-
-
-def navigation_html(sheet: Sheet, tree: TreeWriter) -> list[str]:
-    listing = sheet.listing
-    button = "<button type=button value={0}>{0} <small>{1:,}</small></button>"
-    kinds = " ".join(button.format(*it) for it in tree.counts.most_common())
+def page(sheet: Sheet) -> str:
+    files = (pathlib.Path(__file__).with_name(f"page.{kind}") for kind in ("html", "css", "js"))
+    html, style, script = (file.read_text() for file in files)
+    tree, oem, listing = TreeWriter(sheet), title_of(sheet.listing), sheet.listing
     counts = {"line": listing.line_count, "table": len(listing.dumps), "path": len(listing.rows)}
     facts = ", ".join(counted(count, word) for word, count in counts.items())
-    part = f"<p>{'a part of ' * (sheet.shown is not None)}{facts}</p>"
-    oem = title_of(listing)
-    shown_oem = f"<p class=oem>{escape(oem)}</p>" if oem and sheet.name else ""
-    return [
-        f"<nav aria-label=Namespace>\n<header>\n<h1>{escape(sheet.name or oem or 'ACPI tables')}</h1>\n",
-        f"{shown_oem}{part}\n",
-        '<input id=find type=search aria-label="Find a path, an identifier or a kind"'
-        " autocomplete=off spellcheck=false hidden>\n",
-        f"</header>\n<p class=kinds>{kinds}</p>\n<div id=found hidden></div>\n<div id=tree>\n",
-        *tree.write(),
-        "</div>\n</nav>\n",
-    ]
-
-
-def page(sheet: Sheet) -> str:
-    style, script = (pathlib.Path(__file__).with_name(name).read_text() for name in ("page.css", "page.js"))
-    tree = TreeWriter(sheet)
-    parts = [head_html(sheet, style, script), *navigation_html(sheet, tree)]
-    parts.append("<main id=main tabindex=-1>\n<p id=where hidden></p>\n")
-    for part in (comparison_html, raw_list_html, tables_html):
-        parts += part(sheet)
-    parts += [*BlockWriter(sheet).write(), *undeclared_html(sheet)]
-    # What is looked through by the search
-    index = f'<script type="text/plain" id=index>{packed(chr(10).join(tree.index()))}</script>\n'
-    parts.append(f"</main>\n{index}<script>{script}</script>\n</body>\n</html>\n")
-    return "".join(parts)
+    button = "<button type=button value={0}>{0} <small>{1:,}</small></button>"
+    parts = (*comparison_html(sheet), *raw_list_html(sheet), *tables_html(sheet), *BlockWriter(sheet).write())
+    return Template(html).substitute(
+        digest=base64.b64encode(hashlib.sha256(script.encode()).digest()).decode(), style=style, script=script,
+        title=escape(": ".join(filter(None, (sheet.name, oem))) or "ACPI tables"),
+        heading=escape(sheet.name or oem or "ACPI tables"),
+        oem=f"<p class=oem>{escape(oem)}</p>" if oem and sheet.name else "",
+        facts="a part of " * (sheet.shown is not None) + facts,
+        kinds=" ".join(button.format(*it) for it in tree.counts.most_common()),
+        tree="".join(tree.write()),
+        parts="".join((*parts, *undeclared_html(sheet))),
+        # What is looked through by the search
+        index=packed("\n".join(tree.index())),
+    )
