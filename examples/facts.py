@@ -26,14 +26,13 @@ import pathlib
 import re
 import sqlite3
 import sys
-import tempfile
 from collections import deque
 from collections.abc import Callable, Iterator
 from concurrent.futures.process import BrokenProcessPool, ProcessPoolExecutor
 from functools import partial
 
 from acpidis_tools import command
-from acpidis_tools.collecting import LENGTH, Collector, header_of, record_rows, table_rows
+from acpidis_tools.collecting import LENGTH, Collector, header_of, record_rows
 from acpidis_tools.errors import read_errors
 from acpidis_tools.listing import BLOCK, Dump, NoListing, file_name, read_file, read_listing, reader_of
 from acpidis_tools.names import Names
@@ -67,11 +66,13 @@ class Machine:
                 raise NoListing(f"it has more than {MOST_LINES:,} lines")
             reader = reader_of(self.text)
             found, self.above = reader.dumps(), reader.at
-            files = [form[1] for form in map(BLOCK.fullmatch, reader.lines[reader.at :]) if form]
+            blocks = filter(None, map(BLOCK.fullmatch, reader.lines[reader.at :]))
+            order = {form[1]: number for number, form in enumerate(blocks, 1)}
             # The sums of the dumps by the names of files as the listing has them
             sums = {dump.file: sum_in(dumps, dump) for dump in found} if dumps else {}
             self.lost = sum(it is None for it in sums.values())
-            self.tables, self.records = table_rows(found, files, sums), record_rows(found)
+            self.tables = [[*header_of(dump), order.get(dump.file), sums.get(dump.file)] for dump in found]
+            self.records = record_rows(found)
         except (NoListing, OSError) as fault:
             self.fault = said(fault)
         except MemoryError:
@@ -142,15 +143,10 @@ def has_facts(file: str) -> bool:
 
 
 class Database:
-    """An SQLite file, which appears when it is whole."""
+    """An SQLite file."""
 
-    def __init__(self, file: str):
-        self.file = file
-        folder = os.path.dirname(os.path.abspath(file))
-        if not os.path.isdir(folder):
-            command.leave(f"{file!r}: there is no folder {folder!r}")
-        self.room = tempfile.TemporaryDirectory(prefix=".part", dir=folder)
-        self.connection = sqlite3.connect(f"{self.room.name}/facts", isolation_level=None)
+    def __init__(self, file: pathlib.Path):
+        self.connection = sqlite3.connect(file, isolation_level=None)
         self.connection.executescript(f"PRAGMA journal_mode = OFF; PRAGMA synchronous = OFF; BEGIN; {SCHEMA}")
 
     def add(self, table: str, rows: list[list]) -> None:
@@ -161,8 +157,6 @@ class Database:
         self.connection.execute("COMMIT")
         self.connection.executescript(f"{INDEXES} ANALYZE;")
         self.connection.close()
-        os.replace(f"{self.room.name}/facts", self.file)
-        self.room.cleanup()
 
 
 class Lines:
@@ -315,20 +309,21 @@ def main() -> None:
     if asked.facts and os.path.lexists(asked.facts) and not (os.path.isfile(asked.facts) and has_facts(asked.facts)):
         command.leave(f"{asked.facts!r} is there, and has no facts: name another file")
     try:
-        facts = Facts(Lines() if asked.json else Database(asked.facts))
-        add_all(facts, machines_of(asked), 1 if is_one else asked.jobs)
-        if not facts.bases["machine"]:
-            command.refuse(f"no listing is in {asked.listing!r}: a file `text` is one, in a folder of each machine")
-        name, fault = facts.lacking[-1] if facts.lacking else ("", "")
-        if fault and is_one:
-            if fault.startswith("cannot read "):
-                command.leave(fault)
-            command.refuse(f"{asked.listing!r}: {fault}")
-        facts.sink.close()
-        if facts.lost:
-            command.tell(f"{facts.lost} dumps aren't in {asked.dumps!r}, or have other lengths: no sum stands for them")
+        with command.whole(asked.facts) if asked.facts else contextlib.nullcontext() as part:
+            facts = Facts(Database(part) if part else Lines())
+            add_all(facts, machines_of(asked), 1 if is_one else asked.jobs)
+            if not facts.bases["machine"]:
+                command.refuse(f"no listing is in {asked.listing!r}: a file `text` is one, in a folder of each machine")
+            name, fault = facts.lacking[-1] if facts.lacking else ("", "")
+            if fault and is_one:
+                if fault.startswith("cannot read "):
+                    command.leave(fault)
+                command.refuse(f"{asked.listing!r}: {fault}")
+            facts.sink.close()
     except sqlite3.Error as error:
         command.leave(f"cannot write {asked.facts!r}: {error}")
+    if facts.lost:
+        command.tell(f"{facts.lost} dumps aren't in {asked.dumps!r}, or have other lengths: no sum stands for them")
     if fault:
         said_of = f"{len(facts.lacking)} of {facts.bases['machine']} machines without facts; the last, {name}: {fault}"
         command.tell(f"{said_of}; all: SELECT name, fault FROM machine WHERE fault IS NOT NULL")

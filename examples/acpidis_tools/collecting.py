@@ -49,13 +49,6 @@ def small(number: int | None) -> int | None:
     return number if number is not None and number < TOO_LARGE else None
 
 
-def table_rows(dumps: list[Dump], files: list[str], sums: dict[str, str]) -> list[list]:
-    """The rows of acpi_table, without their first two columns. `files` are those of the definition blocks in load
-    order, `sums` those of the dumps by the names of files."""
-    order = {file: number for number, file in enumerate(files, 1)}
-    return [[*header_of(dump), order.get(dump.file), sums.get(dump.file)] for dump in dumps]
-
-
 def header_of(dump: Dump) -> list:
     """A row of acpi_table as far as the line of a dump says it: the length is the one at LENGTH."""
     form = HEADER.fullmatch(dump.text)
