@@ -144,8 +144,7 @@ def section(all_figures, asked, loads, stolen):
 
 def across(seconds):
     """How far to the right so many seconds stand."""
-    share = math.log(max(seconds, LEAST) / LEAST) / math.log(MOST / LEAST)
-    return LEFT + share * (WIDTH - LEFT - RIGHT)
+    return LEFT + math.log(max(seconds, LEAST) / LEAST) / math.log(MOST / LEAST) * (WIDTH - LEFT - RIGHT)
 
 
 def text(x, y, words, anchor="start"):

@@ -55,8 +55,7 @@ def touched_kb(command, folder):
     with tempfile.NamedTemporaryFile("w", suffix=".gdb") as script:
         script.write("\n".join([*GDB, SHOW]).replace("{}", shlex.join([*command[1:], folder]), 1))
         script.flush()
-        words = ["gdb", "-q", "-batch", "-nx", "-x", script.name, command[0]]
-        shown = ended(*words, stderr=subprocess.STDOUT).out
+        shown = ended("gdb", "-q", "-batch", "-nx", "-x", script.name, command[0], stderr=subprocess.STDOUT).out
     areas = re.findall(r"^Size: +(\d+) kB$.*?^Rss: +(\d+) kB$", shown, re.M | re.S)
     stacks = [int(rss) for size, rss in areas if int(size) == STACK_KB]
     return max(stacks) if stacks else sys.exit(f"no stack of {STACK_KB} KB was found:\n{shown[-2000:]}")

@@ -52,8 +52,7 @@ class Reader(aml.Reader):
 
 
 def code_of(dump, file):
-    length = int.from_bytes(dump[4:8], "little")
-    if len(dump) < HEADER or not HEADER <= length <= len(dump):
+    if not HEADER <= int.from_bytes(dump[4:8], "little") <= len(dump):
         raise Refused(f"{file!r} is no table")
     return aml.code_of(dump)
 

@@ -129,8 +129,7 @@ class Checks(Tally):
 
     def check_forms(self):
         """Lengths and names that aren't in their shortest form are told by the dumps."""
-        code = device(b"DEV0", b"\x08\x2F\1NAM0\1", method(b"NAM1", 0))
-        place = written(self.room / "forms", tables(code))
+        place = written(self.room / "forms", tables(device(b"DEV0", b"\x08\x2F\1NAM0\1", method(b"NAM1", 0))))
         self.text("forms.text", listed(place))
         words = [ASL, "--tables", place, "forms.text", "formed"]
         what = "dsdt.dat: 2 of 2 lengths, 1 of 3 names aren't in their shortest form, which iasl writes"

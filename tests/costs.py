@@ -86,9 +86,9 @@ def measure(program, room):
 
 
 def main():
-    program = asked(__doc__, program=PROGRAM).program
+    words = asked(__doc__, program=PROGRAM)
     with Tally() as checks:
-        for name, count, most in measure(program, checks.room):
+        for name, count, most in measure(words.program, checks.room):
             print(f"{name}: {count}, at most {most}")
             checks.is_so(name, count <= most)
 

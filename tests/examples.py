@@ -88,8 +88,7 @@ class Tries(Tally):
     def check_options(self):
         """Options that a program's help has are passed on, whatever they are, and others are refused."""
         said, fake = self.room / "said", str(self.room / "later")
-        lines = {"calls.py": "", "missing.py": "", "refused.py": "the set isn't refused\n"}
-        for script, line in lines.items():
+        for script, line in {"calls.py": "", "missing.py": "", "refused.py": "the set isn't refused\n"}.items():
             said.write_text("")
             found = self.run(script, "--from", "a file", "rounds", "--later", "--from=--later", ACPIDIS=fake)
             self.row(f"{script}: options", found, 0, line)

@@ -160,8 +160,7 @@ class Checks(Tally):
         for place in ("/dev/stdin", "/proc/self/fd/0"):
             words, said = ["show.py", place, "AAAA"], f"{place!r} declares no such path"
             self.refuses(f"a pipe as {place}", words, said, input=text)
-        left = ["dump", "fifo", "new", "printed", "text"]
-        self.is_same("what is left of the parts", sorted(os.listdir(room)), left)
+        self.is_same("what is left of the parts", sorted(os.listdir(room)), ["dump", "fifo", "new", "printed", "text"])
 
     def mutate(self, count: int) -> None:
         """Damaged listings are read, or are no listings."""

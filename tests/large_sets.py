@@ -1,6 +1,5 @@
 #!/usr/bin/env python3
-"""Runs acpidis over sets that are too many or too large for worked examples, and compares text, error lines and
-status.
+"""Runs acpidis over sets that are too many or too large for worked examples, and compares text, error lines and status.
 
     python3 tests/large_sets.py [--stop] [PROGRAM]
 

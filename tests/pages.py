@@ -1,6 +1,5 @@
 #!/usr/bin/env python3
-"""Runs the commands of the pages for users, each as its page prints it, and compares what comes with what stands
-there.
+"""Runs the commands of the pages for users, each as its page prints it, and compares what comes with what stands there.
 
     python3 tests/pages.py [--no-scripts]
 

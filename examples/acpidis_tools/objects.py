@@ -114,8 +114,7 @@ def pld(value: Term) -> Iterator[str]:
             words.append(SHAPES[bits(74, 4)])
         if bits(79, 8) or bits(87, 8):
             words.append(f"group {bits(79, 8)} position {bits(87, 8)}")
-        ejection = (95, "bay"), (96, "ejectable"), (97, "ejection by the system")
-        words += [word for bit, word in ejection if bits(bit, 1)]
+        words += [word for bit, word in ((95, "bay"), (96, "ejectable"), (97, "ejection by the system")) if bits(bit, 1)]
         words += [f"color 0x{bits(8, 24):06X}"] if not bits(7, 1) else []
         yield ", ".join(words)
 

@@ -167,8 +167,6 @@ OF_NAME = {
     "arity_unknown_zero": lambda names, scope, name, declared: names.arity(scope, True)(declared, name),
 }
 
-OF_SETS = set("set dump raw cut put add order orders run".split())
-
 
 class Rows:
     """The answers to rows: a set and a namespace grow until the next begins."""
@@ -200,7 +198,7 @@ class Rows:
         if kind in OF_NAME:
             scope, name = words.split()
             return shown(OF_NAME[kind](self.names, path_of(scope), name_of(name), self.declared))
-        return (self.of_sets if kind in OF_SETS else self.of_namespaces)(kind, words, data)
+        return self.of_sets(kind, words, data)
 
     def of_sets(self, kind, words, data):
         last = self.dumps[-1].data if self.dumps else b""
@@ -227,6 +225,8 @@ class Rows:
             case "run":
                 status, out, err = self.run(options_of(words))
                 return [f"status {status}", *out.splitlines(), *err.splitlines()]
+            case _:
+                return self.of_namespaces(kind, words, data)
 
     def change(self, data):
         self.dumps[-1] = self.dumps[-1]._replace(data=data)

@@ -111,5 +111,5 @@ def run(command, limit, **how):
     seconds = time.monotonic() - started
     stop.cancel()
     child.returncode = os.waitstatus_to_exitcode(status)
-    used = usage.ru_utime + usage.ru_stime, usage.ru_maxrss * 1024, child.returncode, usage.ru_minflt
-    return Answer(seconds, *used)
+    processor, peak = usage.ru_utime + usage.ru_stime, usage.ru_maxrss * 1024
+    return Answer(seconds, processor, peak, child.returncode, usage.ru_minflt)

@@ -63,8 +63,7 @@ def told(folder, blocks):
     """A line for each dump of the folder that has a length or a name in another form than the shortest."""
     for block in blocks:
         path = os.path.join(os.fsencode(folder), file_name(block.table.file))
-        dump = command.read(path)
-        code = aml.code_of(dump)
+        code = aml.code_of(command.read(path))
         reader = Reader(code, block.said, block.bodies)
         at = reader.read()
         if at < len(code) or next(reader.said, None):
