@@ -20,12 +20,11 @@ import splice
 from dumps import aml_of, dumps_of
 from folders import read_folder
 from hostile import SAMPLES, head_of, repeated, text_of
-from any_run import load
-from loading import path_text
 from made_aml import SETS, VERSIONS, device, method, scope, table, tables
 from made_code import shortest
 from made_plain import PlainMaker
 from made_sets import sealed
+from namespaces import load, path_text
 from printing import file_text
 from reading import Name
 from running import REFUSED, Options, run

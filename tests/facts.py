@@ -21,8 +21,8 @@ from collections.abc import Iterator
 from tally import TOP, Outcome, Tally, asked, ended, first_difference, parts_in, written
 from acpidis_tools import command
 from hostile import facts_script
-from loading import path_text
 from made_aml import SETS, VERSIONS, table, tables
+from namespaces import path_text
 from running import REFUSED, Options, run_folder
 from acpidis_tools.schema import COLUMNS, REFERENCES
 from telling import Teller, samples, small

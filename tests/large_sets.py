@@ -15,9 +15,9 @@ import hostile_shapes as shapes
 from compare import difference_of, laid, run_program
 from dumps import HEADER_LENGTH, MOST_BYTES, MOST_DUMPS, dumps_of
 from hostile import text_of
-from loading import MOST_METHODS
 from made_code import MOST_SEGMENTS
 from made_aml import SETS, device, each, method, scope, segment, table, tables
+from namespaces import MOST_METHODS
 from running import DONE, RAW, Options, refused, run, run_folder
 
 LIST, CHECK = Options(), Options(check=True)

@@ -4,7 +4,7 @@ import re
 from html.parser import HTMLParser
 from xml.etree.ElementTree import Element, TreeBuilder
 
-from loading import path_text
+from namespaces import path_text
 from acpidis_tools.page.sheet import BETWEEN, unpacked
 from telling import Path, Told
 

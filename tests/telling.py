@@ -5,13 +5,12 @@ import random
 from collections.abc import Iterator
 
 from tally import DEMO, Outcome, written
-from any_run import Namespace, RunReader
 from compare import laid
 from dumps import aml_of, order_of
 from folders import read_folder
-from loading import Loaded, path_text
 from made_aml import SETS, table, tables
 from made_sets import SetMaker
+from namespaces import Loaded, Namespace, RunReader, path_text
 from reading import ALIAS, ELSE, EXTERNAL, FIELD_LISTS, IF, METHOD, ROWS, SCOPE, SCOPES
 from reading import Name, Named, Op
 from running import REFUSED, Options, run_folder

@@ -13,8 +13,8 @@ from tally import PROGRAM, TOP, Tally, asked, first_difference
 from cases import Rows
 from compare import laid, run_program
 from folders import MAP_NAME
-from loading import path_text
 from made_sets import Trial
+from namespaces import path_text
 
 RUNS = ["worked_runs.txt", "worked_runs_any_run.txt"]
 MARGIN = "  "

@@ -10,9 +10,8 @@ import sys
 import trying  # noqa: F401, which tells where the others lie
 from dumps import RECORDS, Bad, Dump, addresses_of, little, order_of, records_of
 from folders import LineFault, parse_externals, parse_map
-from any_run import Namespace
-from loading import Body, path_text
 from made_aml import bytes_of, table
+from namespaces import Body, Namespace, path_text
 from printing import hexadecimal, row_text, term_lines
 from reading import IF, METHOD, Name, Op, Reader, Refused
 from running import FLAGS, Options, run

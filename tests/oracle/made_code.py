@@ -1,6 +1,6 @@
 """Makes up the AML of sets of tables: near the grammar of reading.py, most of it lawful, its names mostly known."""
 
-from loading import PREDEFINED
+from namespaces import PREDEFINED
 from reading import ALIAS, BUFFER, ELSE, EXTERNAL, FIELD_LISTS, IF, METHOD, MOST_LEVELS, ROWS, SCOPE, SCOPES, Name
 
 # The bytes of each opcode by its word

@@ -6,9 +6,9 @@ import contextlib
 import copy
 import functools
 
-from any_run import Namespace, RunReader
 from made_code import ARGUMENT_COUNTS, IN_DEEP_TABLES, IN_TABLES, MOST_DEPTH, MOST_SEGMENTS, Maker
 from made_terms import TermMaker, code_of, joined
+from namespaces import Namespace, RunReader
 from reading import ALIAS, ELSE, EXTERNAL, IF, KINDS, METHOD, MOST_LEVELS, RETURN, ROWS, SCOPES, Name, Refused
 
 WHILE, BYTE = 0xA2, 0x0A

@@ -4,9 +4,9 @@ from collections import namedtuple
 
 from dumps import FACS, LISTS, MOST_BYTES, RECORDS, ROOT
 from folders import MAP_NAME
-from loading import path_text
 from made_code import ARGUMENT_COUNTS, STRANGE_SEGMENTS, Chancy, Maker, damaged
 from made_runs import RunMaker
+from namespaces import path_text
 from running import FLAGS, Options
 
 ODD_NAMES = ["SSDT", "SSDT10", "SSDT2", 'a"7.dat', "b\\7", "é 03.dat", ".9", "s.11.", "s12\n.aml", "s9000000003.aml"]

@@ -6,7 +6,7 @@ import functools
 import re
 from collections import namedtuple
 
-from any_run import Namespace, RunReader
+from namespaces import Namespace, RunReader
 from dumps import HEADER_LENGTH
 from folders import MAP_NAME
 from made_code import LEADS, LIKELY_BYTES, WIDEST, damaged, package_length

@@ -1,6 +1,6 @@
 """The text of terms, namespaces and definition blocks after docs/listing.md, line by line."""
 
-from loading import path_text
+from namespaces import path_text
 from reading import METHOD, Name, Named, Op
 
 CONSTANTS = {0x0A, 0x0B, 0x0C, 0x0D, 0x0E}

@@ -10,10 +10,9 @@ import sys
 from collections import namedtuple
 
 from trying import Outcome, asked
-from any_run import load
 from dumps import Bad, aml_of, dump_lines, order_of
 from folders import Unreadable, read_externals, read_folder
-from loading import path_text
+from namespaces import load, path_text
 from printing import block_lines, file_text, namespace_lines
 from reading import Refused
 

@@ -11,8 +11,7 @@ import itertools
 import random
 
 from trying import asked
-from any_run import Namespace, agreed
-from loading import PREDEFINED, own_count
+from namespaces import PREDEFINED, Namespace, agreed, own_count
 from reading import Name
 from tally import Tally
 

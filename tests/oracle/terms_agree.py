@@ -21,7 +21,7 @@ from collections import namedtuple
 
 from trying import asked, built, end
 from compare import laid, run_program
-from loading import PREDEFINED, path_text
+from namespaces import PREDEFINED, path_text
 from runs_agree import found_count, kind_at
 from made_aml import method, tables
 from made_code import shortest

@@ -1,18 +1,41 @@
-"""The namespace of several tables after docs/names.md, and code outside methods, as --any-run reads it, after
-docs/any_run.md: its terms are read from the left, each with the counts of what stands before it, and declare what then
-stands surely or only may stand. Without that option all that tables declare stands surely."""
+"""The namespace of several tables and the bodies of their methods, after docs/names.md, and code outside methods, as
+--any-run reads it, after docs/any_run.md: its terms are read from the left, each with the counts of what stands before
+it, and declare what then stands surely or only may stand. Without that option all that tables declare stands surely."""
 
 from collections import namedtuple
 from dataclasses import dataclass
 
-from loading import MOST_METHODS, PREDEFINED, Loaded, Method, own_count, path_text, placed
 from reading import ALIAS, EXTERNAL, FIELD_LISTS, KINDS, METHOD, ROWS, SCOPE, SCOPES, Reader, Refused, require
 
+MOST_METHODS = 1_048_576
+PREDEFINED = {
+    **dict.fromkeys([(), ("_GPE",), ("_PR_",), ("_SB_",), ("_SI_",), ("_TZ_",)], ("Scope",)),
+    ("_GL_",): ("Mutex",), ("_OS_",): ("Name",), ("_REV",): ("Name",), ("_OSI",): ("Method", 1),
+}
 # The kinds of paths that a Scope opens in every run that has them
 SCOPE_KINDS = {"Scope", *(KINDS[opcode] for opcode in SCOPES - {SCOPE})}
 
 # A name where a value is wanted or a term stands, with the number of its arguments that were read
 Use = namedtuple("Use", "table scope name count in_declaration")
+# Where the body of a method stands: its table, and the offsets of its first byte and behind its last
+Method = namedtuple("Method", "path table start end")
+# The body of a method, with its terms or the fault for which it has none
+Body = namedtuple("Body", "method code terms fault", defaults=[None, None])
+
+
+def path_text(path):
+    return "\\" + ".".join(path)
+
+
+def own_count(kind):
+    """The count of a kind by itself: an Alias takes none."""
+    return kind[1] if kind[0] == "Method" else 0
+
+
+def placed(scope, name):
+    path = name.placed(scope)
+    require(path is not None, Refused, "AboveRoot")
+    return path
 
 
 class Namespace:
@@ -235,6 +258,21 @@ class Loader(RunReader):
         path, is_again = self.space.declare_so(self.scope, name, kind, True, method)
         require(not is_again and path != (), Refused, "Duplicate", None, path_text(path))
         return path, True
+
+
+class Loaded(namedtuple("Loaded", "codes trees space")):
+    """Tables in load order: their AML, the terms of each, and the namespace of all."""
+
+    def bodies(self, unknown_zero):
+        """The bodies of all methods, each read in the namespace of all tables."""
+        return [self.body(method, unknown_zero) for method in self.space.methods]
+
+    def body(self, method, unknown_zero):
+        code = self.codes[method.table][method.start:method.end]
+        try:
+            return Body(method, code, Reader(code, self.space.arity(method.path, unknown_zero), method.path).read())
+        except Refused as fault:
+            return Body(method, code, fault=fault)
 
 
 def load(codes, given=(), any_run=False, unknown_zero=False):
