@@ -17,8 +17,7 @@ import shutil
 from tally import DEMO, PROGRAM, Tally, asked, ended, parts_in, side_by_side, tables_in, timed, written
 import hostile_shapes as shapes
 import splice
-from dumps import aml_of, dumps_of
-from folders import read_folder
+from dumps import aml_of, dumps_of, read_folder
 from hostile import SAMPLES, head_of, repeated, text_of
 from made_aml import SETS, VERSIONS, device, method, scope, table, tables
 from made_code import shortest

@@ -16,8 +16,7 @@ import shutil
 
 from tally import DEMO, Tally, asked, new_room, tables_in, written
 from acpidis_tools.decoding import Decoder, bits_text, flag_words
-from dumps import order_of
-from folders import read_folder
+from dumps import order_of, read_folder
 from iasl import facts_of
 from acpidis_tools.listing import Listing, read_listing
 from acpidis_tools.names import FIELD_LISTS, Names
@@ -134,7 +133,7 @@ class Checks(Tally):
                     continue
                 for kind, facts in ours[dumps[index].name].items():
                     lines = difflib.unified_diff(theirs[kind], facts, lineterm="", n=0)
-                    different = [line for line in lines if not line.startswith(("---", "+++", "@@"))]
+                    different = [line for line in lines if not line.startswith(("---", "+++", ""))]
                     self.is_same(f"{kind} of {what}, {dumps[index].name}", different, [])
 
 

@@ -6,8 +6,7 @@ from collections.abc import Iterator
 
 from tally import DEMO, Outcome, written
 from compare import laid
-from dumps import aml_of, order_of
-from folders import read_folder
+from dumps import aml_of, order_of, read_folder
 from made_aml import SETS, table, tables
 from made_sets import SetMaker
 from namespaces import Loaded, Namespace, RunReader, path_text

@@ -12,7 +12,7 @@ import itertools
 from tally import PROGRAM, TOP, Tally, asked, first_difference
 from cases import Rows
 from compare import laid, run_program
-from folders import MAP_NAME
+from dumps import MAP_NAME
 from made_sets import Trial
 from namespaces import path_text
 

@@ -8,8 +8,7 @@ It shares nothing with the program: the modules beside it read code, namespaces,
 import sys
 
 import trying  # noqa: F401, which tells where the others lie
-from dumps import RECORDS, Bad, Dump, addresses_of, little, order_of, records_of
-from folders import LineFault, parse_externals, parse_map
+from dumps import RECORDS, Bad, Dump, LineFault, addresses_of, little, order_of, parse_externals, parse_map, records_of
 from made_aml import bytes_of, table
 from namespaces import Body, Namespace, path_text
 from printing import hexadecimal, row_text, term_lines

@@ -24,7 +24,7 @@ import subprocess
 import tempfile
 
 from trying import Outcome, asked, built, first_difference, new_room, run, written
-from folders import file_names
+from dumps import file_names
 from made_sets import SetMaker
 from mutating import MutatedMaker
 from running import DONE, REFUSED, Options, run_folder

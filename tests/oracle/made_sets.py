@@ -2,8 +2,7 @@
 
 from collections import namedtuple
 
-from dumps import FACS, LISTS, MOST_BYTES, RECORDS, ROOT
-from folders import MAP_NAME
+from dumps import FACS, LISTS, MAP_NAME, MOST_BYTES, RECORDS, ROOT
 from made_code import ARGUMENT_COUNTS, STRANGE_SEGMENTS, Chancy, Maker, damaged
 from made_runs import RunMaker
 from namespaces import path_text

@@ -7,8 +7,7 @@ import re
 from collections import namedtuple
 
 from namespaces import Namespace, RunReader
-from dumps import HEADER_LENGTH
-from folders import MAP_NAME
+from dumps import HEADER_LENGTH, MAP_NAME
 from made_code import LEADS, LIKELY_BYTES, WIDEST, damaged, package_length
 from made_sets import BLOCKS, SetMaker, Trial, sealed
 from reading import EXTERNAL, METHOD, NAME_LEADS, ROWS, Reader, Refused

@@ -10,8 +10,7 @@ import sys
 from collections import namedtuple
 
 from trying import Outcome, asked
-from dumps import Bad, aml_of, dump_lines, order_of
-from folders import Unreadable, read_externals, read_folder
+from dumps import Bad, Unreadable, aml_of, dump_lines, order_of, read_externals, read_folder
 from namespaces import load, path_text
 from printing import block_lines, file_text, namespace_lines
 from reading import Refused
