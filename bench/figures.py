@@ -199,7 +199,8 @@ def main():
             loads.append(os.getloadavg()[0])
             all_figures.append(figures_of(name, make, words))
             print(row(all_figures[-1], words.seconds), end="", file=sys.stderr, flush=True)
-    text = section(all_figures, words, loads, measuring.stolen_since(begun))
+    ticks, stolen = (now - then for now, then in zip(measuring.processor_time(), begun))
+    text = section(all_figures, words, loads, stolen / max(ticks, 1))
     if words.only:
         print(text, end="")
         return

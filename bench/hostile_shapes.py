@@ -181,11 +181,6 @@ def maybe_aliases(count):
     return method(LEAF, 1, b"") + block(alias(NEAR)) * count + main_method((NEAR + b"\x01") * count)
 
 
-def apart_aliases(count):
-    """Aliases of so many methods of which each stands at most, and as many calls."""
-    return each(mixed(count), lambda it: method(it, 1, b"") + block(alias(NEAR, it))) + main_method((NEAR + b"\x01") * count)
-
-
 def many_methods(count):
     return each(count, lambda name: method(name, 2, bytes.fromhex("7068607261696aa460")))
 
@@ -342,7 +337,10 @@ SHAPES = (
     # Such uses, where no name stands and an External names each of the paths
     *both("maybe-externals", 100_000, "names", 500, lambda count, depth:
         around(depth, lambda code: device(b"\x15" + LEAF + b"\x08\0" + code, NEAR), main_method(LEAF * count))),
-    one("maybe-aliases-apart", 8_000, "Aliases", apart_aliases, any_run=True, is_square=True),
+    # Aliases of so many methods of which each stands at most, and as many calls
+    one("maybe-aliases-apart", 8_000, "Aliases", lambda count:
+        each(mixed(count), lambda it: method(it, 1, b"") + block(alias(NEAR, it)))
+        + main_method((NEAR + b"\x01") * count), any_run=True, is_square=True),
     one("maybe-aliases", 12_000, "Aliases", maybe_aliases, any_run=True, is_square=True),
     one("maybe-aliases-deep", 1_000, "Aliases", lambda count:
         within(10_000, maybe_aliases(count)), any_run=True, is_square=True),

@@ -47,9 +47,3 @@ def processor_time():
     """The ticks of all processors since the start, and how many of them a virtual machine's host gave to others."""
     times = [int(word) for word in pathlib.Path("/proc/stat").read_text().split("\n")[0].split()[1:9]]
     return sum(times), times[7]
-
-
-def stolen_since(begun):
-    """The share of the processors' time that was given to others since then."""
-    (first_all, first_stolen), (last_all, last_stolen) = begun, processor_time()
-    return (last_stolen - first_stolen) / max(last_all - first_all, 1)

@@ -1,8 +1,6 @@
 """What the tests beside this file share: where what they try lies, and counts of what passes and what fails. It comes
 before the others, since it tells where they are."""
 
-from __future__ import annotations
-
 import importlib.machinery
 import importlib.util
 import math
@@ -31,7 +29,7 @@ class Tally:
     def __init__(self, stops: bool = False) -> None:
         self.stops, self.passed, self.failed = stops, 0, 0
 
-    def __enter__(self) -> Tally:
+    def __enter__(self) -> "Tally":
         self.place = new_room()
         self.room = self.place.__enter__()
         return self
