@@ -84,7 +84,7 @@ SETS = (
     ("1 MB", lambda: compiled(2_360)),
     ("16 MB", lambda: compiled(2_360, 16)),
     ("20,000 methods", lambda: tables(shapes.many_methods(20_000))),
-    ("101 tables", lambda: shapes.calling_tables(101, 20, 2, b"\x08\x02")),
+    ("101 tables", lambda: tables(*shapes.calling(101, 20, 2, b"\x08\x02"))),
     ("one long body", lambda: tables(shapes.method(b"MAIN", 0, MIXED * (((1 << 20) - 46) // len(MIXED))))),
 )
 

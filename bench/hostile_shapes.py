@@ -206,8 +206,8 @@ def sparse_files(count, size):
     return {**tables(main_method(b"")), **files}
 
 
-def calling_tables(count, size, arguments, told=None):
-    """Tables of so many methods, each of which calls one of the next table, told by an External or not."""
+def calling(count, size, arguments, told=None):
+    """AML of tables of so many methods, each of which calls one of the next table, told by an External or not."""
     codes = []
     for number in range(count):
         called = [segment((number + 1) % count * size + index) for index in range(size)]
@@ -215,7 +215,7 @@ def calling_tables(count, size, arguments, told=None):
         for index, it in enumerate(called):
             code += method(segment(number * size + index), arguments, b"\xa4" + it + b"\x68\x69"[:arguments])
         codes.append(code)
-    return tables(*codes)
+    return codes
 
 
 ADDRESS, LED, LONG_NAME = 0x1000, ["facp.dat", "dsdt.dat"], "\x01" * 255
@@ -375,7 +375,7 @@ SHAPES = (
     one("dense", MOST_AML, "bytes", lambda size: main_method(DENSE * ((size - 64) // len(DENSE)))),
     Shape("files", 512, "files", lambda count: sparse_files(count, 1 << 20)),
     Shape("files-large", 512, "files", lambda count: sparse_files(count, MOST_BYTES), large=True),
-    Shape("tables", 512, "files", lambda count: calling_tables(count, 500, 1)),
+    Shape("tables", 512, "files", lambda count: tables(*calling(count, 500, 1))),
     Shape("madt", MOST_BYTES, "bytes", lambda size:
         {**tables(b""), "apic.dat": table(b"APIC", bytes(8) + b"\xff\x02" * ((size - 44) // 2))}),
     # Five hundred SSDTs with addresses, and an XSDT that lists so many, the last of them again and again

@@ -35,7 +35,7 @@ MIXED, OTHERS, STEP = 20_000, 500, 7_919
 # Rows that workers print in pieces, the depth of a path with which the caller does, and rows for a second harvest
 ROWS, LONG, LATER = 8_192, 70, 30_000
 # So many tables of so many methods have more bytes than the caller reads alone.
-BESIDE, CALLING = 5, 1_000
+BESIDE, CALLING = 5, 1_100
 # The Aliases of a chain, of which each so manieth is called, and the methods inside a Scope of what is no scope
 CHAINED, STRIDE, INNER = 1_000, 50, 100
 
@@ -138,14 +138,13 @@ def below_maybes():
 def chains_of_aliases():
     """Aliases of Aliases, the first of which may be that of two methods, may be there, or is; and what calls them."""
     methods = method(b"MET1", 1) + method(b"MET2", 2)
-    first, second = (b"\x06" + name + segment(0) for name in (b"MET1", b"MET2"))
+    first, second = (shapes.alias(segment(0), name) for name in (b"MET1", b"MET2"))
     maybe = shapes.block(first)
     starts = {"two methods": maybe + shapes.block(second), "one that may be": maybe, "one": first}
-    chain = b"".join(b"\x06" + segment(number) + segment(number + 1) for number in range(CHAINED))
     called = range(0, CHAINED, STRIDE)
     calls = b"".join(method(b"Z%03d" % number, 0, segment(CHAINED - number) + b"\1\1") for number in called)
     for what, start in starts.items():
-        yield from by_workers(f"Aliases of Aliases of {what}", methods + start + chain + calls)
+        yield from by_workers(f"Aliases of Aliases of {what}", methods + start + shapes.alias_chain(CHAINED) + calls)
 
 
 def scopes_of_no_scope():
@@ -182,13 +181,9 @@ def rows_in_pieces():
 def texts_beside_the_load():
     """Tables so long that workers make their texts beside the load, each with calls of the next one's methods; and one
     more: whose text is too long to be kept, which can't be read, or which declares a path again."""
-    names = [[segment(table * CALLING + number) for number in range(CALLING)] for table in range(BESIDE)]
-    codes = [
-        b"".join(method(name, 1, b"\xa4" + called + b"\x68") for name, called in zip(own, names[table - 1]))
-        for table, own in enumerate(names)
-    ]
+    codes = shapes.calling(BESIDE, CALLING, 1)
     deep = shapes.around(500, lambda inner: device(b"DEEP", inner), b"")
-    others = {"": [], ", one deep": [deep], ", one cut off": [b"\x08AAA"], ", one again": [method(names[0][0], 1)]}
+    others = {"": [], ", one deep": [deep], ", one cut off": [b"\x08AAA"], ", one again": [method(segment(0), 1)]}
     for what, more in others.items():
         yield from by_workers(f"texts beside the load{what}", *codes, *more, runs=(LIST, CHECK))
 
