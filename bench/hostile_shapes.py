@@ -208,14 +208,12 @@ def sparse_files(count, size):
 
 def calling(count, size, arguments, told=None):
     """AML of tables of so many methods, each of which calls one of the next table, told by an External or not."""
-    codes = []
     for number in range(count):
         called = [segment((number + 1) % count * size + index) for index in range(size)]
         code = b"".join(b"\x15" + it + told for it in called) if told else b""
         for index, it in enumerate(called):
             code += method(segment(number * size + index), arguments, b"\xa4" + it + b"\x68\x69"[:arguments])
-        codes.append(code)
-    return codes
+        yield code
 
 
 ADDRESS, LED, LONG_NAME = 0x1000, ["facp.dat", "dsdt.dat"], "\x01" * 255

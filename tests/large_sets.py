@@ -181,7 +181,7 @@ def rows_in_pieces():
 def texts_beside_the_load():
     """Tables so long that workers make their texts beside the load, each with calls of the next one's methods; and one
     more: whose text is too long to be kept, which can't be read, or which declares a path again."""
-    codes = shapes.calling(BESIDE, CALLING, 1)
+    codes = list(shapes.calling(BESIDE, CALLING, 1))
     deep = shapes.around(500, lambda inner: device(b"DEEP", inner), b"")
     others = {"": [], ", one deep": [deep], ", one cut off": [b"\x08AAA"], ", one again": [method(segment(0), 1)]}
     for what, more in others.items():
