@@ -99,26 +99,21 @@ class Tables:
 
     def __init__(self, asked, program, refusal):
         self.refusal, self.order = refusal, load_order(program, asked.folder)
-        if refusal.file is not None and refusal.file not in self.order:
+        if refusal.file not in self.order:
             self.order.append(refusal.file)
         self.codes = [aml.code_of(read_file(asked.folder, name)) for name in self.order]
         self.space = aml.Space(sum(map(len, self.codes)))
-        self.any_run, self.at_fault = asked.any_run, None
-        self.wants_any_run = asked.has_any_run and not asked.any_run
+        self.any_run, self.wants_any_run = asked.any_run, asked.has_any_run and not asked.any_run
         given = read_file("", asked.externals)[:MOST_BYTES].decode("latin-1") if asked.externals else ""
         for path, count in GIVEN.findall(given):
             node = self.space.node(path)
             node.given = max(node.given or 0, int(count))
-
-    def read_to_fault(self):
-        """Reads the tables in front of the one at fault, and that one to where the fault is."""
-        for number, (name, code) in enumerate(zip(self.order, self.codes)):
-            is_last = name == self.refusal.file
-            reader = aml.Reader(number, code, self.space, self.refusal.at if is_last else None, self.any_run)
+        # Those in front of the one at fault, and that one to where the fault is
+        end = self.order.index(refusal.file)
+        for number in range(end + 1):
+            stop = refusal.at if number == end else None
+            reader = self.at_fault = aml.Reader(number, self.codes[number], self.space, stop, self.any_run)
             reader.stopped = reader.read()
-            if is_last:
-                self.at_fault = reader
-                break
 
     def read_rest(self):
         for number in range(self.at_fault.table + 1, len(self.codes)):
@@ -275,10 +270,8 @@ def say_all(asked, program, refusal):
     data = b"" if refusal.file is None else read_file(asked.folder, refusal.file)
     what, ways, ways_of_dsdt = words_on(asked, refusal, data)
     if refusal.file is not None and (refusal.word in AT_BYTES or refusal.word in SAYERS):
-        found = Tables(asked, program, refusal)
         try:
-            found.read_to_fault()
-            yield from SAYERS.get(refusal.word, Tables.say_code)(found)
+            yield from SAYERS.get(refusal.word, Tables.say_code)(Tables(asked, program, refusal))
         except aml.TooManySteps:
             yield "  the scopes are too deep for this script to follow"
     elif refusal.file is not None:
