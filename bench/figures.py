@@ -19,7 +19,6 @@ import os
 import re
 import shutil
 import sys
-from collections import namedtuple
 from xml.sax.saxutils import escape
 
 import measuring
@@ -88,9 +87,6 @@ SETS = (
     ("one long body", lambda: tables(shapes.method(b"MAIN", 0, MIXED * (((1 << 20) - 46) // len(MIXED))))),
 )
 
-# What was measured of one set; no answer where a run took too long
-Figures = namedtuple("Figures", "name size alone together iasl")
-
 
 def best(command, folder, words):
     """The shortest of some runs, with its peak memory: GNU time begins the command from a process that is small."""
@@ -104,14 +100,14 @@ def best(command, folder, words):
 
 
 def figures_of(name, make, words):
-    """The figures of a set, in a folder that is gone afterwards."""
+    """A set's name and size, and what runs by one worker, by several and of iasl took: None where one took too long."""
     with new_room() as room:
         tables, beside = room / "tables", room / "beside"
         size = measuring.write(tables, make)
         shutil.copytree(tables, beside)
         commands = [[words.program, "--workers", str(count), str(tables)] for count in (1, MOST_WORKERS)]
         commands.append(["iasl", "-d", *sorted(file.name for file in tables.iterdir())])
-        return Figures(name, size, *(best(command, beside, words) for command in commands))
+        return name, size, *(best(command, beside, words) for command in commands)
 
 
 def row(figures, limit):

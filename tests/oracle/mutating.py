@@ -89,10 +89,9 @@ class Mutator:
             self.flip, self.damage, cut, self.rename, self.change_term, self.move_term, replace, self.wrap,
             self.change_opcode, self.change_flags,
         ]
-        self.ways_of_packages = [self.change_length, self.stretch_all]
 
     def mutated(self, code, layout):
-        ways = self.ways + (self.ways_of_packages if layout.packages else [])
+        ways = self.ways + ([self.change_length, self.stretch_all] if layout.packages else [])
         return (self.chance.choice(ways) if code else self.damage)(code, layout)
 
     def span(self, layout):
