@@ -26,7 +26,7 @@ from collections import namedtuple
 
 from acpidis_tools import command
 from acpidis_tools.asl import forms, language
-from acpidis_tools.asl.blocks import Block, Reader
+from acpidis_tools.asl.blocks import Reader
 from acpidis_tools.asl.names import said_by
 from acpidis_tools.listing import NoListing, path_of, path_text
 
@@ -40,8 +40,7 @@ Made = namedtuple("Made", "table lines told")
 
 def of_listing(asked):
     """The blocks of the listing, and the texts that are to be written."""
-    reader = Reader(lambda table, space: Block(table, space, asked.edit))
-    reader.read(asked.listing)
+    reader = Reader(asked.listing, asked.edit)
     found = reader.blocks
     if asked.method:
         found = [method for block in reader.blocks for method in block.methods_at(path_of(asked.method))]

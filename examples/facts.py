@@ -34,7 +34,7 @@ from functools import partial
 from acpidis_tools import command
 from acpidis_tools.collecting import LENGTH, Collector, header_of, record_rows
 from acpidis_tools.errors import read_errors
-from acpidis_tools.listing import BLOCK, Dump, NoListing, file_name, read_file, read_listing, reader_of
+from acpidis_tools.listing import BLOCK, Dump, NoListing, Reader, file_name, read_file, read_listing
 from acpidis_tools.names import Names
 from acpidis_tools.schema import COLUMNS, INDEXES, OF_CODE, SCHEMA, shifted
 
@@ -64,7 +64,7 @@ class Machine:
                 raise NoListing(f"refused: {line[9:]}" if line.startswith("acpidis: ") else "it is empty")
             if self.text.count(b"\n") > MOST_LINES:
                 raise NoListing(f"it has more than {MOST_LINES:,} lines")
-            reader = reader_of(self.text)
+            reader = Reader(self.text)
             found, self.above = reader.dumps(), reader.at
             blocks = filter(None, map(BLOCK.fullmatch, reader.lines[reader.at :]))
             order = {form[1]: number for number, form in enumerate(blocks, 1)}

@@ -44,7 +44,7 @@ def name_of(file: str) -> str:
 def sheet_of(asked: argparse.Namespace) -> Sheet:
     most = MOST_TO_READ if asked.only else MOST_BYTES
     with command.reading(asked.listing, NO_LISTING):
-        sheet = Sheet.of(text_of(asked.listing, most))
+        sheet = Sheet(text_of(asked.listing, most))
         if asked.only:
             sheet.only(asked.only)
     sheet.name = asked.name or name_of(asked.listing)
@@ -53,7 +53,7 @@ def sheet_of(asked: argparse.Namespace) -> Sheet:
             sheet.faults = read_errors(text_of(asked.errors, MOST_BYTES), sheet.listing)
     if asked.compare:
         with command.reading(asked.compare, NO_LISTING):
-            other = Sheet.of(text_of(asked.compare, most))
+            other = Sheet(text_of(asked.compare, most))
         sheet.comparison = compare(sheet.decoder, other.decoder, name_of(asked.compare))
     return sheet
 

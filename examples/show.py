@@ -69,7 +69,7 @@ def main() -> None:
     words.add_argument("path", metavar="PATH", type=ends)
     asked = words.parse_args()
     with command.reading(asked.listing):
-        sheet = Sheet.of(command.read(asked.listing))
+        sheet = Sheet(command.read(asked.listing))
     is_there = False
     for line in shown(sheet, asked.path):
         is_there = True

@@ -15,7 +15,7 @@ import resource
 import subprocess
 
 from tally import TOP, Tally, asked, executable, module_of, parts_in, tables_in, timed, written
-from acpidis_tools.asl.blocks import Block, Reader
+from acpidis_tools.asl.blocks import Reader
 from acpidis_tools.asl.names import said_by
 from acpidis_tools.errors import read_errors
 from acpidis_tools.listing import NoListing
@@ -85,14 +85,13 @@ def mutated(lines: list, dice: random.Random) -> str:
 
 
 def make_page(text: bytes, errors: bytes, is_packed: bool) -> str:
-    sheet = Sheet.of(text, is_packed=is_packed)
-    sheet.faults = read_errors(errors, sheet.listing) if errors else {}
+    sheet = Sheet(text)
+    sheet.is_packed, sheet.faults = is_packed, read_errors(errors, sheet.listing) if errors else {}
     return page(sheet)
 
 
 def make_asl(text: pathlib.Path) -> None:
-    reader = Reader(lambda table, space: Block(table, space, True))
-    reader.read(text)
+    reader = Reader(text, True)
     [block.text(reader.rows, said_by(reader.blocks)) for block in reader.blocks]
 
 

@@ -159,10 +159,20 @@ def pieces_of(bare: str, is_head: bool) -> list[str]:
 
 
 class Reader:
-    """Goes over the lines of a text, which are counted from 1."""
+    """Goes over the lines of a text that begins and ends as a listing does, counted from 1. They may end as on Windows."""
 
-    def __init__(self, lines: list[str]):
-        self.lines, self.at = lines, 0
+    def __init__(self, text: bytes):
+        if not text:
+            raise NoListing("it is empty")
+        if not text.isascii():
+            number = next(number for number, line in enumerate(text.split(b"\n"), 1) if not line.isascii())
+            raise NoListing(f"line {number} has a byte that isn't ASCII")
+        *self.lines, rest = text.decode().replace("\r\n", "\n").split("\n")
+        self.at = 0
+        if not DUMP.fullmatch(self.lines[0] if self.lines else rest):
+            raise NoListing("it doesn't begin as a listing of acpidis does, with a line Table or Root")
+        if rest:
+            raise NoListing(f"it is cut in line {len(self.lines) + 1}")
 
     def peek(self) -> str:
         return self.lines[self.at] if self.at < len(self.lines) else ""
@@ -244,34 +254,15 @@ def read_file(file: str, most: int | None = None, why: str = "") -> bytes:
     return text
 
 
-def reader_of(text: bytes) -> Reader:
-    """Reads a text that begins and ends as a listing does. Its lines may end as on Windows."""
-    if not text:
-        raise NoListing("it is empty")
-    if not text.isascii():
-        number = next(number for number, line in enumerate(text.split(b"\n"), 1) if not line.isascii())
-        raise NoListing(f"line {number} has a byte that isn't ASCII")
-    lines = text.decode().replace("\r\n", "\n").split("\n")
-    if not DUMP.fullmatch(lines[0]):
-        raise NoListing("it doesn't begin as a listing of acpidis does, with a line Table or Root")
-    if lines[-1]:
-        raise NoListing(f"it is cut in line {len(lines)}")
-    return Reader(lines[:-1])
-
-
 def read_listing(text: bytes) -> Listing:
-    reader = reader_of(text)
+    reader = Reader(text)
     dumps, above = reader.dumps(), reader.at
     rows, blocks = reader.rows(), []
     while reader.at < len(reader.lines):
         blocks.append(reader.block())
-    check_blocks(dumps, blocks, len(reader.lines))
-    return Listing(dumps, rows, blocks, len(reader.lines), above)
-
-
-def check_blocks(dumps: list[Dump], blocks: list[Block], line_count: int) -> None:
-    """There is a block of each table, but where addresses say which tables are loaded: there is one at least."""
+    # There is a block of each table, but where addresses say which tables are loaded: there is one at least.
     tables = sum(dump.signature in DEFINITION_BLOCKS for dump in dumps)
     has_addresses = any(re.search(r" At [0-9A-F]{16}(?: BadSum)?$", dump.text) for dump in dumps)
     if len(blocks) < (1 if has_addresses else tables):
-        raise NoListing(f"it is cut behind line {line_count}: a definition block is missing")
+        raise NoListing(f"it is cut behind line {len(reader.lines)}: a definition block is missing")
+    return Listing(dumps, rows, blocks, len(reader.lines), above)

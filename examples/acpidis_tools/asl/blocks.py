@@ -30,21 +30,11 @@ class Block:
     have terms. A text that is to be changed has the Externals that it needs, and is without the `guards`, the first and
     the last line of each If that has Externals alone: iasl writes one of its own around those."""
 
-    def __init__(self, table, space, is_edited=False):
+    def __init__(self, table, space, is_edited, lines):
         self.table, self.names, self.is_edited, self.lines = table, Names(space), is_edited, []
         self.unspelled, self.said, self.bodies, self.methods, self.guards = [], [], [], [], set()
         self.number = table.number
         self.head = table.head(table.signature, self.tell)
-
-    def tell(self, what):
-        self.unspelled.append((self.number, what))
-
-    @property
-    def told(self):
-        """What ASL can't spell, or iasl makes otherwise, with the numbers of the lines."""
-        return sorted([*self.unspelled, *self.names.told()], key=lambda it: it[0])
-
-    def read(self, lines):
         self.first = lines[1].number
         for place, line in enumerate(lines[1:-1], 1):
             self.number = line.number
@@ -55,6 +45,14 @@ class Block:
             if line.depth == 1 and line.bare == GUARD:
                 inside = lines[place + 1 : place + line.end - line.number]
                 self.guards |= {line.number, line.end} if all(it.term == "External" for it in inside) else set()
+
+    def tell(self, what):
+        self.unspelled.append((self.number, what))
+
+    @property
+    def told(self):
+        """What ASL can't spell, or iasl makes otherwise, with the numbers of the lines."""
+        return sorted([*self.unspelled, *self.names.told()], key=lambda it: it[0])
 
     def turned(self, line):
         """A line as one of ASL."""
@@ -125,25 +123,18 @@ class Found(namedtuple("Found", "block table line path has_terms")):
 
 
 class Reader:
-    """Reads a listing block by block. `make` makes the block of a table, with the namespace of the listing."""
+    """The blocks, the namespace and the rows of a listing, for texts that are to be changed, or as they are."""
 
-    def __init__(self, make):
-        self.make, self.space, self.rows, self.blocks = make, running.Namespace(), [], []
-
-    def read(self, file):
-        lines = listing.reader_of(command.read(file))
-        dumps = lines.dumps()
-        forms = [(dump, TABLE.fullmatch(dump.text)) for dump in dumps]
+    def __init__(self, file, is_edited):
+        found, self.space, self.blocks = listing.read_listing(command.read(file)), running.Namespace(), []
+        self.rows = [self.space.add(row) for row in found.rows]
+        forms = [(dump, TABLE.fullmatch(dump.text)) for dump in found.dumps]
         tables = {dump.file: Table(dump.number, *form.groups()) for dump, form in forms if form}
-        self.rows = [self.space.add(row) for row in lines.rows()]
-        while lines.at < len(lines.lines):
-            number, block = lines.at + 1, lines.block()
+        for block in found.blocks:
             # Each stands once, behind the line of its table.
             if block.file not in tables:
-                raise misread(number)
-            self.blocks.append(self.make(tables.pop(block.file), self.space))
-            self.blocks[-1].read(block.lines)
-        listing.check_blocks(dumps, self.blocks, len(lines.lines))
+                raise misread(block.lines[0].number)
+            self.blocks.append(Block(tables.pop(block.file), self.space, is_edited, block.lines))
 
 
 def misread(number):

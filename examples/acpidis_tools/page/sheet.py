@@ -6,12 +6,11 @@ from __future__ import annotations
 import base64
 import zlib
 from collections.abc import Callable, Iterator
-from dataclasses import dataclass, field
 
 from acpidis_tools.comparison import Comparison
 from acpidis_tools.decoding import Decoder
 from acpidis_tools.errors import Fault
-from acpidis_tools.listing import Line, Listing, NoListing, Path, path_of, path_text, read_listing
+from acpidis_tools.listing import Line, NoListing, Path, path_of, path_text, read_listing
 from acpidis_tools.names import PREDEFINED, Meaning, Names, Sort, Uses
 
 # The page of a longer listing has its lines packed.
@@ -22,27 +21,19 @@ DEEPEST_FOLD = 60
 BETWEEN = "\n<!-- uses -->\n"
 
 
-@dataclass
 class Sheet:
-    """What a page is made of. Where it hasn't all, `shown` are the numbers of the lines, `paths` the declared paths."""
+    """What a page is made of, by the text of a listing: a long one is packed. Where the page hasn't all, `shown` are the
+    numbers of the lines, `paths` the declared paths."""
 
-    listing: Listing
-    names: Names
-    decoder: Decoder
-    name: str = ""
-    faults: dict[int, Fault] = field(default_factory=dict)
-    comparison: Comparison | None = None
-    is_packed: bool = False
-    shown: set[int] | None = None
-    paths: set[Path] | None = None
-
-    @classmethod
-    def of(cls, text: bytes, is_packed: bool | None = None) -> Sheet:
-        """That of a listing's text, which is packed where it is long, if nothing else is said."""
-        listing = read_listing(text)
-        names = Names(listing)
-        is_packed = len(text) > LONG_TEXT if is_packed is None else is_packed
-        return cls(listing, names, Decoder(listing, names), is_packed=is_packed)
+    def __init__(self, text: bytes):
+        self.listing = read_listing(text)
+        self.names = Names(self.listing)
+        self.decoder = Decoder(self.listing, self.names)
+        self.name, self.is_packed = "", len(text) > LONG_TEXT
+        self.faults: dict[int, Fault] = {}
+        self.comparison: Comparison | None = None
+        self.shown: set[int] | None = None
+        self.paths: set[Path] | None = None
 
     def mark(self, path: Path | None) -> str:
         return self.comparison.mark(path) if self.comparison and path is not None else ""
@@ -111,9 +102,8 @@ def link(path: Path) -> str:
     return f"<a href=#{path_text(path)}>{path_text(path)}</a>"
 
 
-def classed(*words: str) -> str:
-    shown = " ".join(filter(None, words))
-    return f' class="{shown}"' if " " in shown else f" class={shown}" if shown else ""
+def classed(word: str) -> str:
+    return f" class={word}" if word else ""
 
 
 def packed(html: str) -> str:
