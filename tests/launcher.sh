@@ -10,14 +10,7 @@ row() {
     name=$1 status=$2 line=$3
     shift 3
     "$@" >printed 2>&1 </dev/null
-    got=$?
-    if [ "$got" = "$status" ] && grep -qxF -- "$line" printed; then
-        pass
-    else
-        fail "$name: status $got, not $status; wanted the line"
-        printf '  %s\nprinted\n' "$line"
-        sed 's/^/  /' printed
-    fi
+    is "$name" "$? $(grep -m 1 -xF -- "$line" printed || cat printed)" "$status $line"
 }
 
 # lists NAME WORD..: the command prints the demo's text and nothing else
@@ -32,11 +25,11 @@ mkdir -p copy/docs copy/crates/acpidis_program/data/demo empty commands folder
 cp "$top/acpidis" "$top/build" "$top/crates.txt" copy
 cp "$top/docs/help.txt" copy/docs
 cp -r "$sources/src" copy/crates/acpidis_program
-sed -n 's/^\([a-z_]*\)[ :].*/\1/p' copy/crates.txt | while read -r crate; do mkdir -p "copy/crates/$crate/src"; done
+sed -n 's|^\([a-z_]*\)[ :].*|copy/crates/\1/src|p' copy/crates.txt | xargs mkdir -p
 path=$work/commands:/usr/bin:/bin
 
 # what needs the built program
-real_rows() {
+if [ "${1-}" != copy ]; then
     "$top/acpidis" --program >/dev/null 2>&1
     ln -s "$top/acpidis" link
     lists 'the demo' "$top/acpidis" demo
@@ -47,10 +40,8 @@ real_rows() {
     row 'a file that is named demo' 1 'acpidis: cannot read "demo"' "$top/acpidis" --externals demo demo
     row 'two folders' 2 "For more information, try '--help'." "$top/acpidis" demo demo
     is 'the help that needs no build' "$("$top/acpidis" --help)" "$("$top/out/acpidis" --help 2>&1)"
-    end
-}
-
-if [ "${1-}" = real ]; then real_rows; fi
+fi
+[ "${1-}" != real ] || end
 
 # with nothing built, and no kit
 none=$work/empty:/usr/bin:/bin
@@ -86,32 +77,28 @@ is 'the others are ended' "$groups" ''
 is 'at once' "$(($(date +%s) - start < 20))" 1
 
 # a build that works; rt keeps a log of what begins and ends, and of how many jobs
-cat >commands/rt <<S
+# shellcheck disable=SC2016 # the command expands it
+printf '#!/bin/sh\nprintf "%%s|" built "$@"\necho\n' | script made
+script commands/rt <<S
 #!/bin/sh
 name=\${PWD##*/}
 echo "begin \$name \$*" >>'$work/log'
 ps -o ni= \$\$ >>'$work/nices'
 sleep 0.2
-if [ "\$1" = run ]; then
-    mkdir -p out
-    printf '#!/bin/sh\\nprintf "%%s|" built "\$@"\\necho\\n' >out/new
-    chmod +x out/new
-    mv out/new out/acpidis_program
-fi
+if [ "\$1" = run ]; then install -D '$work/made' out/acpidis_program; fi
 echo "end \$name" >>'$work/log'
 S
 # order: a crate that began before one below it had ended
 order() {
-    awk 'FNR == NR {
-            if (/^[^#]*:/) { split($0, half, ":"); split(half[1], words, " "); below[words[1]] = half[2] }
-            next
-        }
-        { all[$2] = 1 } $1 == "end" { ended[$2] = 1 }
+    awk -F '[ :]+' '
+        FNR == NR { if (/^[^#]*:/) below[$1] = $0; next }
+        $1 == "end" { ended[$2] }
         $1 == "begin" {
-            n = split(below[$2], low, " ")
-            for (i = 1; i <= n; i++) if (low[i] in below && !(low[i] in ended)) print $2, low[i]
+            begun[$2]
+            n = split(below[$2], low)
+            for (i = 2; i <= n; i++) if (low[i] in below && !(low[i] in ended)) print $2, low[i]
         }
-        END { for (name in all) if (!(name in ended)) print name " has no end" }' copy/crates.txt log
+        END { for (name in begun) if (!(name in ended)) print name " has no end" }' copy/crates.txt log
 }
 for width in 1 2 4; do
     : >log
@@ -150,14 +137,14 @@ row 'its own folder' 0 'built|crates|' env -C copy sh acpidis crates
 PATH=$usual
 
 # several at once, each of which has to put the program in its place
-wrong=0
-for _ in $(seq "${TIMES-20}"); do
+times=${TIMES-20}
+for _ in $(seq "$times"); do
     rm -rf copy/out
     for number in 1 2 3 4; do copy/acpidis folder >"at$number" 2>&1 & done
     wait
-    for number in 1 2 3 4; do [ "$(cat "at$number")" = 'built|folder|' ] || wrong=$((wrong + 1)); done
-done
-is 'four at once' "$wrong" 0
+    cat at?
+done >all
+is 'four at once' "$(sort all | uniq -c | sed 's/^ *//')" "$((4 * times)) built|folder|"
 is 'no other file is left' "$(ls copy/out)" 'acpidis'
 
 # a changed source
@@ -167,5 +154,4 @@ touch copy/crates/aml_load/src
 row 'a changed source' 0 'built|folder|' env PATH="$path" RT_JOBS=4 copy/acpidis folder
 is 'a changed source is built' "$(grep -c '^begin' log)" 18
 
-if [ "${1-}" != copy ]; then real_rows; fi
 end
