@@ -33,18 +33,28 @@ find_program() {
 
 # show FOLDER: sets `shown` to its name in a line, each byte that isn't printable ASCII, and \, as \x and two digits
 show() {
-    local rest=$1 char code
-    shown=$rest
-    [[ $rest == *[!\ -~]* || $rest == *\\* ]] || return 0
-    shown=
-    while [ -n "$rest" ]; do
-        char=${rest:0:1} rest=${rest:1}
-        if [[ $char == [!\ -~] || $char == \\ ]]; then
-            printf -v code %d "'$char"
-            printf -v char '\\x%02X' $((code & 255))
-        fi
-        shown+=$char
+    local char code
+    shown=${1//\\/'\x5C'}
+    while [[ $shown =~ [^\ -~] ]]; do
+        char=${BASH_REMATCH[0]}
+        printf -v code %d "'$char"
+        printf -v code '\\x%02X' $((code & 255))
+        shown=${shown//"$char"/"$code"}
     done
+}
+
+# open_results SETS RESULTS: makes the file where it isn't there, and cuts off a last line that isn't whole. Each line has to
+# be a result, and one at the end that isn't whole has to begin as one.
+open_results() {
+    [ -d "$1" ] || fail "no folder $1"
+    [ ! -e "$2" ] || [ -f "$2" ] || [ "$2" = /dev/null ] || fail "$2 is no regular file"
+    : >>"$2" || fail "cannot write $2"
+    awk -F '\t' -v whole="$(wc -l <"$2")" '
+        NR <= whole ? NF != 8 || $2 !~ /^[0-9]+$/ : NF > 8 || NF > 1 && $2 !~ /^[0-9]*$/ || !whole && NF < 2 { exit 1 }
+        ' <"$2" || fail "$2 has lines that are no results: name another file"
+    if [ -n "$(tail -c 1 -- "$2")" ]; then
+        truncate -s "$(head -n "$(wc -l <"$2")" -- "$2" | wc -c)" -- "$2" || fail "cannot write $2"
+    fi
 }
 
 # The folders below SETS that hold a file, are empty, or can't be read; files in SETS itself are none of a set.
@@ -53,51 +63,22 @@ folders_of() {
         -o \( ! -type d -path './*/*' -printf '%h\0' \)) | sort -zu
 }
 
-# Leaves out the folders `data` and `dynamic` of a set: they come along from /sys/firmware/acpi/tables.
-only_sets() {
-    local -A is_set=()
-    local folder folders
-    mapfile -d '' folders
+# left SETS RESULTS: the sets that have no line, each ended by a NUL
+left() {
+    local -A is_set=() has_line=()
+    local name folder folders
+    open_results "$1" "$2"
+    while IFS=$'\t' read -r name _; do has_line["/$name"]=1; done <"$2"
+    mapfile -d '' folders < <(folders_of "$1")
     for folder in "${folders[@]}"; do is_set["$folder"]=1; done
     for folder in "${folders[@]}"; do
         case ${folder##*/} in
+        # Of a set these come along from /sys/firmware/acpi/tables.
         data | dynamic) [ -z "${is_set["${folder%/*}"]-}" ] || continue ;;
         esac
-        printf '%s\0' "${folder#./}"
+        show "${folder#./}"
+        [ -n "${has_line["/$shown"]-}" ] || printf '%s\0' "${folder#./}"
     done
-}
-
-# without_line RESULTS: of the sets on standard input those that have no line
-without_line() {
-    local -A has_line=()
-    local name folder
-    while IFS=$'\t' read -r name _; do has_line["/$name"]=1; done <"$1"
-    while IFS= read -rd '' folder; do
-        show "$folder"
-        [ -n "${has_line["/$shown"]-}" ] || printf '%s\0' "$folder"
-    done
-}
-
-# has_results RESULTS: whether each line is a result, and one at the end that isn't whole begins as one
-has_results() {
-    awk -F '\t' -v whole="$(wc -l <"$1")" '
-        NR <= whole ? NF != 8 || $2 !~ /^[0-9]+$/ : NF > 8 || NF > 1 && $2 !~ /^[0-9]*$/ || !whole && NF < 2 { exit 1 }' "$1"
-}
-
-# open_results SETS RESULTS: makes the file where it isn't there, and cuts off a last line that isn't whole
-open_results() {
-    [ -d "$1" ] || fail "no folder $1"
-    [ ! -e "$2" ] || [ -f "$2" ] || [ "$2" = /dev/null ] || fail "$2 is no regular file"
-    : >>"$2" || fail "cannot write $2"
-    has_results "$2" || fail "$2 has lines that are no results: name another file"
-    if [ -n "$(tail -c 1 -- "$2")" ]; then
-        truncate -s "$(head -n "$(wc -l <"$2")" -- "$2" | wc -c)" -- "$2" || fail "cannot write $2"
-    fi
-}
-
-left() {
-    open_results "$1" "$2"
-    folders_of "$1" | only_sets | without_line "$2"
 }
 
 # The first fault, tables, methods and raw bodies of a run, from its lines, and the file of the first table, the DSDT
@@ -116,21 +97,16 @@ count_checks() {
 
 # oem_of SET NAME: sets `oem` to OEM, table and revision in the header of the file of this name, as the listing has them
 oem_of() {
-    local name bytes at char texts=('' '')
-    oem=-
-    [ -n "$2" ] || return 0
+    local name
     printf -v name %b "$2" # a backslash in it is always \x and two digits
-    read -ra bytes < <(od -An -v -tu1 -w18 -j 10 -N 18 -- "$1/$name" 2>/dev/null)
-    [ ${#bytes[@]} = 18 ] || return 0
-    for at in {0..13}; do
-        printf -v char '\\x%02X' "${bytes[at]}"
-        case ${bytes[at]} in
-        34 | 92) ;;
-        3[2-9] | [4-9]? | 1[01]? | 12[0-6]) printf -v char %b "$char" ;;
-        esac
-        texts[at > 5]+=$char
-    done
-    printf -v oem '"%s" "%s" %02X%02X%02X%02X' "${texts[@]}" "${bytes[17]}" "${bytes[16]}" "${bytes[15]}" "${bytes[14]}"
+    oem=$([ -z "$2" ] || od -An -v -tu1 -w18 -j 10 -N 18 -- "$1/$name" 2>/dev/null | awk 'NF == 18 {
+        for (i = 1; i <= 14; i++) {
+            form = $i < 32 || $i > 126 || $i == 34 || $i == 92 ? "\\x%02X" : "%c"
+            texts[i > 6] = texts[i > 6] sprintf(form, $i + 0)
+        }
+        printf "\"%s\" \"%s\" %02X%02X%02X%02X", texts[0], texts[1], $18, $17, $16, $15
+    }')
+    oem=${oem:--}
 }
 
 # check WORD..: runs the program with these words, no longer and with no more memory than it may. It is a process of its own.
@@ -193,14 +169,6 @@ ones() {
     done
 }
 
-# report SETS RESULTS: how many sets have which status, and whether all have a line
-report() {
-    local missing
-    missing=$(left "$1" "$2" | tr -dc '\0' | wc -c)
-    cut -f 2 -- "$2" | sort -n | uniq -c | awk '{ print "acpidis-survey: status " $2 ": " $1 }' >&2
-    [ "$missing" = 0 ] || fail "$missing sets have no line: run it again"
-}
-
 survey() {
     find_program
     open_results "$1" "$2"
@@ -215,9 +183,12 @@ survey() {
         batch=$((${#folders[@]} / (jobs * 8) + 1))
         printf '%s\0' "${folders[@]}" |
             xargs -0 -n "$batch" -s 100000 -P "$jobs" "$BASH" "$script" --one "$sets" "$@" -- | cat >>"$results"
+    elif [ ! -s "$results" ]; then
+        fail "no folder with tables is below $sets"
     fi
-    [ ${#folders[@]} -gt 0 ] || [ -s "$results" ] || fail "no folder with tables is below $sets"
-    report "$sets" "$results"
+    mapfile -d '' folders < <(left "$sets" "$results")
+    cut -f 2 -- "$results" | sort -n | uniq -c | awk '{ print "acpidis-survey: status " $2 ": " $1 }' >&2
+    [ ${#folders[@]} = 0 ] || fail "${#folders[@]} sets have no line: run it again"
 }
 
 for word; do
