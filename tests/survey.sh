@@ -35,9 +35,7 @@ shown=(plain 'two words' 'tab\x09here' 'new\x0Aline\x0A' 'back\x5Cslash' -dash '
     printf '%s\t0\t-\t1\t1\t0\n' data "${shown[@]/#/rack 1/}"
     printf '%s\t1\t%s\t-\t-\t-\n' empty NoDsdt text 'table "NOTES": Short'
 } | LC_ALL=C sort >wanted
-lines() {
-    LC_ALL=C sort "$1" | cut -f 1-6
-}
+lines() { LC_ALL=C sort "$1" | cut -f 1-6; }
 "$survey" -j 3 sets results 2>report
 is 'status of a survey' "$?" 0
 is 'lines' "$(lines results)" "$(cat wanted)"
@@ -96,17 +94,13 @@ mkdir -p run/if run/return run/short
 printf 'DSDT\66\0\0\0%028d\10CCCC\1\240\13CCCC\10WIN_\0' 0 >run/if/dsdt.dat
 printf 'DSDT\46\0\0\0%028d\244\0' 0 >run/return/dsdt.dat
 printf 'no table' >run/short/dsdt.dat
-wanted=$'if\t1\ttable "dsdt.dat": ModuleCode at 6 (read with --any-run)\t-\t-\t-
-return\t1\ttable "dsdt.dat": ModuleCode at 0\t-\t-\t-
-short\t1\ttable "dsdt.dat": Short\t-\t-\t-'
+others=$'return\t1\ttable "dsdt.dat": ModuleCode at 0\t-\t-\t-\nshort\t1\ttable "dsdt.dat": Short\t-\t-\t-'
 "$survey" run refused --any-sum 2>/dev/null
-is 'what --any-run reads' "$(lines refused)" "$wanted"
-wanted=$'if\t0\t-\t1\t0\t0
-return\t1\ttable "dsdt.dat": ModuleCode at 0\t-\t-\t-
-short\t1\ttable "dsdt.dat": Short\t-\t-\t-'
+is 'what --any-run reads' "$(lines refused)" \
+    $'if\t1\ttable "dsdt.dat": ModuleCode at 6 (read with --any-run)\t-\t-\t-\n'"$others"
 : >calls
 ACPIDIS=$work/slow.sh "$survey" run taken --any-sum --any-run 2>/dev/null
-is 'the option given' "$(lines taken)" "$wanted"
+is 'the option given' "$(lines taken)" $'if\t0\t-\t1\t0\t0\n'"$others"
 is 'no set is run twice' "$(wc -l <calls)" 3
 
 # the OEM of the DSDT, whatever its file is called, with bytes that aren't printable
@@ -168,9 +162,8 @@ is 'the lines of the given' "$(lines parts)" $'1\t0\t-\t1\t1\t0\n2\t0\t-\t1\t1\t
 # a folder that may not be read, by a user who may not
 nobody=(setpriv --reuid=65534 --clear-groups)
 if [ "$(id -u)" = 0 ] && command -v setpriv >/dev/null && "${nobody[@]}" test -x "$survey" -a -x "$program"; then
-    mkdir closed
+    mkdir -p closed/shut
     cp -r "$demo" closed/open
-    mkdir closed/shut
     chmod 700 closed/shut
     chmod 777 .
     ACPIDIS=$program "${nobody[@]}" "$survey" closed shut 2>/dev/null
@@ -179,7 +172,8 @@ fi
 
 is 'help' "$("$survey" --help | head -n 1 | cut -c 1-12)" 'Runs acpidis'
 
-# collect.sh, with another ssh: a host that sends tables, one that sends half of them, one that fails, one that is silent
+# collect.sh, with another ssh: a host that sends tables, one that sends half of them, one that fails, one that is silent, and
+# what is in the folders of `sent`
 collect=$top/examples/collect.sh
 mkdir commands
 script commands/ssh <<S
@@ -192,30 +186,29 @@ half) tar -C '$demo' -cf - . | head -c 1040 ;;
 late) sleep 9 ;;
 large) head -c 3000000 /dev/zero ;;
 loud) head -c 100000 /dev/zero | tr '\\0' x >&2; printf '\\nno \\033[31mway\\007\\n' >&2; exit 1 ;;
-odd*) exec tar -C '$work/odd' -cf - . ;;
-packed) exec tar -C '$work/zeros' -czf - . ;;
-many) exec tar -C '$work/crowd' -cf - . ;;
-sparse) exec tar -S -C '$work/holes' -cf - . ;;
-deep) exec tar -C '$work/levels' -cf - . ;;
+packed) exec tar -C '$work/sent/packed' -czf - . ;;
+odd1 | many | sparse | deep) exec tar -S -C "$work/sent/\$2" -cf - . ;;
 *) echo first >&2; echo "no way to \$2" >&2; exit 255 ;;
 esac
 S
-mkdir odd odd/shut
-cp "$demo/dsdt.dat" odd
-cp "$demo/dsdt.dat" odd/shut
-ln -s /etc/passwd odd/link
-mkfifo odd/fifo
-chmod 6755 odd/dsdt.dat
-chmod 2000 odd/shut
+mkdir -p sent/odd1/shut sent/packed sent/many sent/sparse "sent/deep/$(printf 'd/%.0s' {1..17})"
+cp "$demo/dsdt.dat" sent/odd1
+cp "$demo/dsdt.dat" sent/odd1/shut
+ln -s /etc/passwd sent/odd1/link
+mkfifo sent/odd1/fifo
+chmod 6755 sent/odd1/dsdt.dat
+chmod 2000 sent/odd1/shut
+head -c 900000 /dev/zero | tee sent/packed/one >sent/packed/two
+touch sent/many/{1..4200}
+truncate -s 40M sent/sparse/one sent/sparse/two
 # shellcheck disable=SC2016
 printf '%s\n' good1 dead '# a line' '' late half '-oProxyCommand=touch bad' '../out' 'a b' '$(touch bad)' good2 >hosts
 is 'hosts from a pipe' "$(timeout 9 "$collect" pipe collected 2>&1; echo "$?")" \
     $'acpidis-collect: pipe is a pipe, which may never end\n2'
 is 'no hosts' "$("$collect" nowhere collected 2>&1; echo "$?"; ls -d collected 2>/dev/null)" $'acpidis-collect: cannot read nowhere\n2'
-collected() {
-    PATH=$work/commands:$PATH COLLECT_SECONDS=1 "$collect" hosts collected 2>errors
-}
-collected
+# collected VARIABLE=..: brings the tables of the hosts
+collected() { env PATH="$work/commands:$PATH" "$@" "$collect" hosts collected 2>errors; }
+collected COLLECT_SECONDS=1
 is 'the status of a collection' "$?" 1
 is 'what came' "$(cd collected && find . -type f ! -name log | LC_ALL=C sort | tr '\n' ' ')" './good1/dsdt.dat ./good2/dsdt.dat '
 # shellcheck disable=SC2016 # a host's name, not a command
@@ -226,22 +219,16 @@ is 'the log' "$(cut -f 1-2 collected/log | LC_ALL=C sort | tr '\t\n' ' |')" 'dea
 # shellcheck disable=SC2012 # the names are known
 is 'no part is left' "$(ls -A collected | tr '\n' ' ')" 'good1 good2 log '
 : >asked
-collected
+collected COLLECT_SECONDS=1
 is 'only those are asked again that have none' "$(sort asked | tr '\n' ' ')" 'dead half late '
 is 'nothing ran' "$(find . -name 'bad*')" ''
 
 # what a host sends may be anything: too much, control bytes, links, rights
-mkdir zeros crowd
-head -c 900000 /dev/zero >zeros/one
-cp zeros/one zeros/two
-(cd crowd && seq 4200 | xargs touch)
-mkdir -p holes "levels/$(printf 'd/%.0s' 1 2 3 4 5 6 7 8 9 10 11 12 13 14 15 16 17)"
-truncate -s 40M holes/one holes/two
 printf '%s\n' large loud odd1 >hosts
-PATH=$work/commands:$PATH COLLECT_MEGABYTES=1 "$collect" hosts collected 2>errors
+collected COLLECT_MEGABYTES=1
 is 'too much, and control bytes' "$(LC_ALL=C sort errors)" $'large: more than 1 MB\nloud: no [31mway'
 printf '%s\n' packed many sparse deep >hosts
-PATH=$work/commands:$PATH "$collect" hosts collected 2>errors
+collected
 is 'what is packed, and too many files' "$(cut -d : -f 1 errors | LC_ALL=C sort | tr '\n' ' ')" 'deep many packed sparse '
 is 'why' "$(grep -v packed errors | LC_ALL=C sort)" \
     $'deep: folders that are too deep\nmany: more than 4096 files\nsparse: files of more than 64 MB'
