@@ -14,7 +14,7 @@ row() {
     shift 3
     error=$("$@" 2>&1 >output)
     is "$name" "$? $error" "$status $lines"
-    if [ "$status" != 0 ] && [ "$status" != 3 ]; then is "$name: standard output" "$(wc -c <output)" 0; fi
+    case $status in 0 | 3) ;; *) is "$name: standard output" "$(wc -c <output)" 0 ;; esac
 }
 
 # prints: what the last row wrote to standard output is what stands on standard input
@@ -121,8 +121,7 @@ refused 'a check of a wrong checksum' 'table "ssdt1.dat": BadSum' --check summed
 lists 'any checksum' 3 "$raw_errors" --any-sum summed
 
 # code outside methods
-mkdir code
-{ printf 'DSDT\055\0\0\0' && head -c 28 /dev/zero && printf '\240\010\001\010WIN_\0'; } >code/dsdt.dat
+table code/dsdt.dat DSDT A008010857494E5F00
 refused 'code outside methods' 'table "dsdt.dat": ModuleCode at 0' --any-sum code
 lists 'a check of code outside methods' 0 '' --any-sum --any-run --check code
 lists 'code that may run' 0 '' --any-run --any-sum --workers 1 code
@@ -188,19 +187,11 @@ ln -s folder link
 row 'a link to a folder' 0 '' ./program link
 
 # where standard error is a terminal a refusal has a second line: the way on
-cat >terminal.py <<'P'
-import os, pty, subprocess, sys
-
-leader, follower = pty.openpty()
-status = subprocess.run(sys.argv[1:], stderr=follower).returncode
-os.close(follower)
-try:
-    while data := os.read(leader, 4096):
-        os.write(2, data.replace(b"\r", b""))
-except OSError:
-    pass  # All is read.
-sys.exit(status)
-P
+# on_terminal WORD..: the program with these words, for which standard error is a terminal
+on_terminal() {
+    python3 -c 'import pty, sys; sys.exit(pty.spawn(sys.argv[1:]) >> 8)' \
+        sh -c 'stty -onlcr; exec ./program "$@" >output' - "$@" >&2
+}
 try_any_run='acpidis: try --any-run, which takes what a run would declare; acpidis-refused FOLDER shows what stands there'
 ask_refused='acpidis: acpidis-refused FOLDER shows what stands there, and ways on'
 ask_in_any_run='acpidis: acpidis-refused --any-run FOLDER shows what stands there, and ways on'
@@ -210,7 +201,7 @@ led() {
     name=$1 line=$2 way=$3
     shift 3
     row "$name, to a terminal" 1 "$line
-$way" python3 terminal.py ./program "$@"
+$way" on_terminal "$@"
 }
 mkdir named
 table twice/dsdt.dat DSDT 084141414100084141414100
@@ -227,9 +218,10 @@ led 'a wrong checksum' 'acpidis: table "ssdt1.dat": BadSum' "$ask_refused" summe
 led 'a file that is named as a refusal' 'acpidis: table ": Duplicate \x5C": Short' "$ask_refused" named
 led 'no tables' 'acpidis: NoDsdt' "$ask_refused" empty
 led 'no folder' 'acpidis: cannot read folder' "acpidis: \"nowhere\" isn't there" nowhere
-led 'a file' 'acpidis: cannot read folder' 'acpidis: "file" is a file: put it into a folder, and name that; acpidis-unpack takes acpidump'"'"'s text' file
-row 'raw bodies, to a terminal' 3 "$raw_errors" python3 terminal.py ./program raw
-row 'nothing to say, to a terminal' 0 '' python3 terminal.py ./program folder
+led 'a file' 'acpidis: cannot read folder' \
+    "acpidis: \"file\" is a file: put it into a folder, and name that; acpidis-unpack takes acpidump's text" file
+row 'raw bodies, to a terminal' 3 "$raw_errors" on_terminal raw
+row 'nothing to say, to a terminal' 0 '' on_terminal folder
 
 # what is no regular file is passed over
 mkdir folder/sub folder/tables.map

@@ -4,14 +4,10 @@
 . "$(dirname -- "$0")/rows.sh"
 unset PREFIX DESTDIR PROGRAM LIBRARY
 
-files() {
-    find "$1" -type f -o -type l | LC_ALL=C sort
-}
+files() { find "$1" -type f -o -type l | LC_ALL=C sort; }
 
 # sorted COMMAND..: what it prints, in order
-sorted() {
-    "$@" 2>&1 | LC_ALL=C sort
-}
+sorted() { "$@" 2>&1 | LC_ALL=C sort; }
 
 prefix="$work/a library's prefix"
 mkdir library && touch library/libacpidis.so.0 library/libacpidis.a library/acpidis.pc
@@ -35,17 +31,16 @@ is 'modes, whatever the umask' "$(find "$prefix/share" -printf '%m %y|\n' | sort
 is 'examples that are run' "$(find "$prefix/share" -type f -perm 755 | wc -l)" \
     "$(find "$top/examples" -type f -perm /111 | wc -l)"
 is 'the mode of the program' "$(stat -c %a "$prefix/bin/acpidis")" 755
-if command -v man >/dev/null; then
-    is 'the page is found' "$(man -M "$prefix/share/man" -w acpidis 2>&1)" "$page"
-fi
+if command -v man >/dev/null; then is 'the page is found' "$(man -M "$prefix/share/man" -w acpidis 2>&1)" "$page"; fi
 is 'each command has it' "$(cd "$prefix/share/man/man1" && grep -lF '.TH ACPIDIS' -- * | sort)" \
     "$(cd "$prefix/bin" && printf '%s.1\n' acpidis* | sort)"
 docs=$prefix/share/doc/acpidis
 is 'commands find the program' "$(PATH=$prefix/bin:$PATH acpidis-missing "$demo" 2>&1)" '# no body waits for a name'
 is 'commands find it beside them' "$("$prefix/bin/acpidis-missing" "$demo" 2>&1)" '# no body waits for a name'
 is 'scripts find it' "$("$prefix/share/acpidis/missing.py" "$demo" 2>&1)" '# no body waits for a name'
-is 'the survey finds it' "$(cd "$work" && mkdir beside && cp -r "$demo" beside && "$prefix/bin/acpidis-survey" beside one 2>&1 &&
-    "$prefix/share/acpidis/survey.sh" beside two 2>&1)" "$(printf 'acpidis-survey: status 0: 1\nacpidis-survey: status 0: 1')"
+mkdir sets && cp -r "$demo" sets
+is 'the survey finds it' "$("$prefix/bin/acpidis-survey" sets one 2>&1 && "$prefix/share/acpidis/survey.sh" sets two 2>&1)" \
+    "$(printf 'acpidis-survey: status 0: 1\nacpidis-survey: status 0: 1')"
 is 'another program' "$(ACPIDIS=/none/acpidis "$prefix/bin/acpidis-missing" "$demo" 2>&1)" \
     'acpidis-missing: no program acpidis: install it, or name it in ACPIDIS'
 for script in "$top"/examples/*.py "$top"/examples/*.sh; do
@@ -54,15 +49,15 @@ for script in "$top"/examples/*.py "$top"/examples/*.sh; do
         is "acpidis-${name%.*}" "$(PATH=$prefix/bin:$PATH "acpidis-${name%.*}" --help 2>&1 | grep -c .)" "$("$script" --help 2>&1 | grep -c .)"
     fi
 done
-is 'the survey as a command' "$(cd "$work" && mkdir -p sets && cp -r "$demo" sets &&
-    PATH=$prefix/bin:$PATH acpidis-survey sets lines 2>&1 && cut -f 1-3 lines)" "$(printf 'acpidis-survey: status 0: 1\ndemo\t0\t-')"
+is 'the survey as a command' "$(PATH=$prefix/bin:$PATH acpidis-survey sets lines 2>&1 && cut -f 1-3 lines)" \
+    "$(printf 'acpidis-survey: status 0: 1\ndemo\t0\t-')"
 is 'pages that the manual names' "$(sed -n 's|.*doc/acpidis/\([a-z_]*\.md\).*|\1|p' "$page" | sort -u |
     while read -r name; do [ -f "$docs/$name" ] || echo "$name"; done)" ''
 is 'commands that the pages name' "$(grep -oh '`acpidis-[a-z]*' "$docs"/*.md | tr -d '`' | sort -u |
     while read -r name; do [ -x "$prefix/bin/$name" ] || echo "$name"; done; grep -lE 'examples/|[^/](asl|facts|missing|page|refused|survey|unpack)\.(py|sh)' "$docs"/*.md)" ''
 # those of a quoted source are its own
 links() {
-    (cd "$docs" && awk '/^```/ { code = !code; next } !code' ./*.md | grep -o '](\([^)]*\))' | sed 's/^](//; s/[#)].*//' | sort -u)
+    awk '/^```/ { code = !code; next } !code' "$docs"/*.md | grep -o '](\([^)]*\))' | sed 's/^](//; s/[#)].*//' | sort -u
 }
 is 'links of the pages' "$(links | while read -r name; do [ -z "$name" ] || [ -f "$docs/$name" ] || echo "$name"; done)" ''
 is 'links there are' "$(links | grep -cx 'README.md\|page.png\|figures.svg')" 3

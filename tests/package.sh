@@ -8,20 +8,16 @@ unset PREFIX DESTDIR LIBRARY
 export GIT_CONFIG_GLOBAL=/dev/null
 
 # lines TEXT..: each text in a line of its own, in order
-lines() {
-    printf '%s\n' "$@" | LC_ALL=C sort
-}
+lines() { printf '%s\n' "$@" | LC_ALL=C sort; }
 
 # stand_in FILE TEXT: makes a program that says this of its version
-stand_in() {
-    printf '#include <stdio.h>\nint main(void) { return puts("%s") < 0; }\n' "$2" >stand_in.c
-    "${CC:-cc}" -o "$1" stand_in.c
-}
+script stand_in <<'S'
+#!/bin/sh
+printf '#include <stdio.h>\nint main(void) { return puts("%s") < 0; }\n' "$2" | "${CC:-cc}" -x c -o "$1" -
+S
 
 # sums: those of all files in the place of the first checkout's packages
-sums() {
-    (cd first/out/package && find . -type f -exec sha256sum {} + | sort)
-}
+sums() { (cd first/out/package && find . -type f -exec sha256sum {} + | sort); }
 
 # refused NAME STATUS WANTED COMMAND..: a command has this status and says this line, and the packages stay as they are
 refused() {
@@ -44,7 +40,7 @@ commit=$(git -C first rev-parse HEAD)
 version=$(sed -n 's/.*VERSION: &str = "\(.*\)";/\1/p' "$sources/src/version.rt")
 logic=$(rt version | sed 's/.* logic //')
 stamp="acpidis $version commit $commit logic $logic"
-stand_in program "$stamp" || exit 1
+./stand_in program "$stamp" || exit 1
 PROGRAM=$work/program
 export PROGRAM
 
@@ -99,9 +95,7 @@ mv installed/share/zsh/site-functions installed/share/zsh/vendor-completions
 is "Debian's package and ./install have the same" "$(diff -r installed debian/usr 2>&1)" ''
 
 # what they say that they are made of
-has() {
-    is "made_of.txt has $1" "$(grep -cxF -- "$2" papers/made_of.txt)" 1
-}
+has() { is "made_of.txt has $1" "$(grep -cxF -- "$2" papers/made_of.txt)" 1; }
 has 'what the program says' "  $stamp"
 has 'the kit' "  $(rt version)"
 has 'the sum of the program' "The program's SHA-256 $(sha256sum <installed/bin/acpidis | cut -d ' ' -f 1)"
@@ -120,10 +114,9 @@ done
 # with a library, here one of a function
 dpkg-deb -R "$package" plain
 mkdir library
-printf '#include <stdio.h>\nint acpidis_open(void *set) { return puts(set); }\n' >library/stand_in.c
-"${CC:-cc}" -shared -fPIC -Wl,-soname,libacpidis.so.0 -o library/libacpidis.so.0 library/stand_in.c
+printf '#include <stdio.h>\nint acpidis_open(void *set) { return puts(set); }\n' |
+    "${CC:-cc}" -x c -shared -fPIC -Wl,-soname,libacpidis.so.0 -o library/libacpidis.so.0 -
 touch library/libacpidis.a library/acpidis.pc
-rm library/stand_in.c
 (cd first && LIBRARY=$work/library ./package) >/dev/null
 at=first/out/package
 is 'the packages with a library' "$(cd $at && ls -A -- *.deb)" \
@@ -138,9 +131,7 @@ done
 is 'no file is in two packages' "$(cat acpidis.files libacpidis0.files libacpidis-dev.files python3-acpidis.files | sort | uniq -d)" ''
 is 'the program has the same files' "$(cat acpidis.files)" "$(cd plain && find usr ! -type d | LC_ALL=C sort)"
 # those of NAME: its files without its papers
-those() {
-    grep -v "^usr/share/doc/$1/c" "$1.files" | tr '\n' ' '
-}
+those() { grep -v "^usr/share/doc/$1/c" "$1.files" | tr '\n' ' '; }
 is 'the library' "$(those libacpidis0)" 'usr/lib/libacpidis.so.0 '
 is 'what programs in C want' "$(those libacpidis-dev)" 'usr/include/acpidis.h usr/lib/libacpidis.a usr/lib/libacpidis.so '\
 'usr/lib/pkgconfig/acpidis.pc usr/share/doc/acpidis/example.c usr/share/man/man3/acpidis.3.gz '
@@ -161,19 +152,15 @@ script commands/rt <<S
 case \$1 in version | doc) exec '$(command -v rt)' "\$@" ;; esac
 echo "\${PWD##*/}" >>'$work/log'
 if [ "\$1" = run ]; then
-    text=\$(sed -n 's/.*VERSION: &str = "\(.*\)";/\1/p' src/version.rt)
-    mkdir -p out && cd out &&
-        printf '#include <stdio.h>\nint main(void) { return puts("acpidis %s") < 0; }\n' "\$text" >stand_in.c &&
-        "\${CC:-cc}" -o acpidis_program stand_in.c
+    mkdir -p out
+    '$work/stand_in' out/acpidis_program "acpidis \$(sed -n 's/.*VERSION: &str = "\(.*\)";/\1/p' src/version.rt)"
 fi
 S
 mkdir failing
 sed '/^echo/{s/.*/exit 1/;q}' commands/rt | script failing/rt
 refused 'a build that fails' 126 'package: ./acpidis ended with status 126' \
     env -u PROGRAM PATH="$work/failing:$PATH" first/package
-built() {
-    env -u PROGRAM PATH="$work/commands:$PATH" first/package 2>/dev/null
-}
+built() { env -u PROGRAM PATH="$work/commands:$PATH" first/package 2>/dev/null; }
 is 'a program that is built' "$(built)" "$said"
 is 'its sources stay as they are' "$(git -C first status --porcelain)" ''
 rm log
@@ -186,7 +173,7 @@ first/package >/dev/null
 
 # what is changed
 echo >>first/docs/limits.md
-stand_in dirty "acpidis $version+dirty commit $commit logic $logic"
+./stand_in dirty "acpidis $version+dirty commit $commit logic $logic"
 refused 'a program of the commit, where something is changed' 1 "package: $work/program says" first/package
 PROGRAM=$work/dirty first/package >/dev/null
 is 'changes' "$(ls first/out/package)" "$(lines SHA256SUMS "$archive.tar.xz" "${package##*/}" \
@@ -211,7 +198,7 @@ refused 'no kit' 127 "package: the Rattle kit isn't there: put the folder that h
 mv first/.git .
 refused 'no commit' 1 'package: no commit is known: this wants to be a checkout of git, of the user who runs it' first/package
 mv .git first
-stand_in older "acpidis $version commit 0123 logic $logic"
+./stand_in older "acpidis $version commit 0123 logic $logic"
 refused 'a program of another commit' 1 "  acpidis $version commit 0123 logic $logic" env PROGRAM="$work/older" first/package
 refused 'no program' 1 '  No such file or directory' env PROGRAM="$work/none" first/package
 printf '#!/bin/sh\necho "%s"\n' "$stamp" | script script

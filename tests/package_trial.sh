@@ -41,14 +41,10 @@ debootstrap --variant=minbase --include=python3 "$release" "$root" "$mirror" >"$
 chmod 755 "$work"
 
 # inside COMMAND: what a shell in the new root prints
-inside() {
-    chroot "$root" sh -c "cd / && $1" 2>&1
-}
+inside() { chroot "$root" sh -c "cd / && $1" 2>&1; }
 
 # all: every file there but the journals of dpkg
-all() {
-    (cd "$root" && find . -path ./var/lib/dpkg -prune -o -path ./var/log -prune -o -print | LC_ALL=C sort)
-}
+all() { (cd "$root" && find . -path ./var/lib/dpkg -prune -o -path ./var/log -prune -o -print | LC_ALL=C sort); }
 
 is 'no kit' "$(inside 'ls -d /opt/* 2>/dev/null; command -v rt acpidis')" ''
 mkdir "$root/demo"
@@ -62,10 +58,9 @@ is 'its files are whole' "$(inside 'dpkg --verify acpidis')" ''
 is 'its version' "$(inside 'acpidis --version' | cut -d ' ' -f 1-2)" "acpidis $version"
 is 'the demo' "$(inside 'acpidis demo')" "$(cat "$sources/stdout")"
 is 'a check of the demo' "$(inside 'acpidis --check demo')" 'Check "dsdt.dat" Bytes 9 Methods 1 Raw 0 Same'
-page=acpidis-page
-is 'a page' "$(inside "acpidis demo >listing && $page listing" | cksum)" \
+is 'a page' "$(inside 'acpidis demo >listing && acpidis-page listing' | cksum)" \
     "$(cd "$root" && "$top/examples/page.py" listing | cksum)"
-is 'it is a page' "$(inside "$page listing" | grep -c '^<!DOCTYPE html>')" 1
+is 'it is a page' "$(inside 'acpidis-page listing' | grep -c '^<!DOCTYPE html>')" 1
 rm "$root/listing"
 is 'a script that runs it' "$(inside 'acpidis-missing demo')" '# no body waits for a name'
 inside 'dpkg --purge acpidis' >/dev/null
@@ -84,9 +79,7 @@ chmod -R a+rX "$root/demo"
 cp "$sources/stdout" "$root/listing"
 
 # nobody COMMAND: what a shell of this user prints in the folder of the archive
-nobody() {
-    chroot --userspec=nobody:nogroup "$root" sh -c "cd '$folder' && $1" 2>&1
-}
+nobody() { chroot --userspec=nobody:nogroup "$root" sh -c "cd '$folder' && $1" 2>&1; }
 
 is 'nothing can be written' "$(nobody 'find / -xdev -writable ! -type l ! -path "/dev/*" ! -path "/proc/*" 2>/dev/null')" ''
 is 'the demo, from a folder with blanks' "$(nobody 'bin/acpidis /demo')" "$(cat "$sources/stdout")"

@@ -19,9 +19,7 @@ end() {
     exit
 }
 
-pass() {
-    passed=$((passed + 1))
-}
+pass() { passed=$((passed + 1)); }
 
 # fail TEXT..: the last row failed
 fail() {
