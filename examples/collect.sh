@@ -25,8 +25,8 @@ one() {
         unpack "$part" 2>"$part/said" && mv -T -- "$part/set" "$SETS/$1" 2>"$part/said" || status=1
     fi
     printf '%s\t%s\t%s\n' "$1" "$status" $(($(date +%s) - start)) >>"$SETS/log"
-    if [ "$status" = 0 ]; then return; fi
     case $status in
+    0) return ;;
     124) said="no answer in ${COLLECT_SECONDS:-60} seconds" ;;
     153) said="more than ${COLLECT_MEGABYTES:-64} MB" ;;
     *) said=$(tail -c 500 -- "$part/said" | tail -n 1 | LC_ALL=C tr -dc ' -~') ;;
@@ -71,8 +71,7 @@ case $1 in
 *) [ ! -p "$1" ] || fail "acpidis-collect: $1 is a pipe, which may never end" ;;
 esac
 mkdir -p -- "$2" || exit 1
-SETS=$2
-export SETS
+export SETS="$2"
 # A host is a word that may be a folder's name, and no option of ssh.
 while read -r host; do
     case $host in
