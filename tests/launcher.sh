@@ -21,7 +21,7 @@ lists() {
     if cmp -s printed "$sources/stdout"; then pass; else fail "$listed, and nothing else"; fi
 }
 
-mkdir -p copy/docs copy/crates/acpidis_program/data/demo empty commands folder
+mkdir -p copy/docs copy/crates/acpidis_program/data/demo empty folder
 cp "$top/acpidis" "$top/build" "$top/crates.txt" copy
 cp "$top/docs/help.txt" copy/docs
 cp -r "$sources/src" copy/crates/acpidis_program
@@ -52,7 +52,6 @@ nokit="acpidis: the Rattle kit isn't there: its command rt proves and builds thi
 row 'no kit' 127 "$nokit" env PATH="$none" copy/acpidis demo
 
 # a build that fails, with an older program in place
-mkdir copy/crates/acpidis_program/out
 stub=copy/crates/acpidis_program/out/acpidis_program
 printf '#!/bin/sh\necho stale\n' | script $stub
 touch -d '2001-01-01' $stub
@@ -117,8 +116,7 @@ is 'a crate of a short chain, one job' "$(grep 'begin aml_pool' log)" 'begin aml
 is 'one crate, four processors' "$(grep 'begin acpidis_program' log | cut -d ' ' -f 3-5)" 'run --jobs 4'
 rm -rf copy/crates/acpidis_program/out
 echo 'text_writer 9000' >copy/out/seconds
-first='acpidis: building text_writer (1 of 18)'
-row 'a build by the times of the last one' 0 "$first" env PATH="$path" RT_JOBS=1 copy/acpidis folder
+row 'the times of the last build' 0 'acpidis: building text_writer (1 of 18)' env PATH="$path" RT_JOBS=1 copy/acpidis folder
 mkdir links
 ln -s ../copy/acpidis links/first
 ln -s first links/second
@@ -129,8 +127,7 @@ where=$(cd copy && pwd -P)
 row 'where the program lies' 0 "$where/out/acpidis" copy/acpidis --program
 demo=$where/crates/acpidis_program/data/demo
 row 'the word demo' 0 "built|--check|$demo|" copy/acpidis --check demo
-wanted="built|--externals|demo|--workers|demo|$demo|"
-row 'demo behind an option' 0 "$wanted" copy/acpidis --externals demo --workers demo demo
+row 'demo behind options' 0 "built|--externals|demo|--workers|demo|$demo|" copy/acpidis --externals demo --workers demo demo
 row 'a link to a link' 0 'built|folder|' links/second folder
 row 'a link on the PATH' 0 'built|folder|' second folder
 row 'its own folder' 0 'built|crates|' env -C copy sh acpidis crates

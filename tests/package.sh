@@ -41,8 +41,7 @@ version=$(sed -n 's/.*VERSION: &str = "\(.*\)";/\1/p' "$sources/src/version.rt")
 logic=$(rt version | sed 's/.* logic //')
 stamp="acpidis $version commit $commit logic $logic"
 ./stand_in program "$stamp" || exit 1
-PROGRAM=$work/program
-export PROGRAM
+export PROGRAM="$work/program"
 
 said=$(first/package)
 archive=acpidis-$version-linux-amd64
@@ -146,7 +145,6 @@ rm -r "$at"/libacpidis* "$at"/python3* acpidis libacpidis0 libacpidis-dev python
 first/package >/dev/null
 
 # a program that is built here: a command rt in front of the kit's writes into it what the copy of its source says
-mkdir commands
 script commands/rt <<S
 #!/bin/sh
 case \$1 in version | doc) exec '$(command -v rt)' "\$@" ;; esac
@@ -156,7 +154,6 @@ if [ "\$1" = run ]; then
     '$work/stand_in' out/acpidis_program "acpidis \$(sed -n 's/.*VERSION: &str = "\(.*\)";/\1/p' src/version.rt)"
 fi
 S
-mkdir failing
 sed '/^echo/{s/.*/exit 1/;q}' commands/rt | script failing/rt
 refused 'a build that fails' 126 'package: ./acpidis ended with status 126' \
     env -u PROGRAM PATH="$work/failing:$PATH" first/package
@@ -224,7 +221,6 @@ fi
 mkdir first/out/package/.part.killed
 first/package >/dev/null
 is 'nothing is left of one that was killed' "$(find first/out/package -name '.part.*')" ''
-mkdir slow
 printf '#!/bin/sh\ntouch "%s/begun"\nsleep 20\n' "$work" | script slow/dpkg-deb
 before=$(sums)
 PATH="$work/slow:$PATH" first/package >/dev/null 2>&1 &

@@ -90,7 +90,7 @@ is 'a script that runs it, from there' \
     "$(nobody "ACPIDIS='$folder/bin/acpidis' bin/acpidis-missing /demo")" '# no body waits for a name'
 
 # the commands of the page, in a folder with both packages; ssh leads into the new root, where root needs no sudo
-mkdir "$work/bin" "$work/here"
+mkdir "$work/here"
 script "$work/bin/ssh" <<S
 #!/bin/sh
 while [ "\$1" != -- ]; do shift; done

@@ -33,8 +33,9 @@ is() {
     if [ "$2" = "$3" ]; then pass; else fail "$(printf '%s: got\n%s\nnot\n%s' "$1" "$2" "$3")"; fi
 }
 
-# script FILE: makes a command of the lines on standard input
+# script FILE: makes a command of the lines on standard input, and its folder
 script() {
+    case $1 in */*) mkdir -p "${1%/*}" ;; esac
     cat >"$1"
     chmod +x "$1"
 }

@@ -175,7 +175,6 @@ is 'help' "$("$survey" --help | head -n 1 | cut -c 1-12)" 'Runs acpidis'
 # collect.sh, with another ssh: a host that sends tables, one that sends half of them, one that fails, one that is silent, and
 # what is in the folders of `sent`
 collect=$top/examples/collect.sh
-mkdir commands
 script commands/ssh <<S
 #!/bin/sh
 while [ "\$1" != -- ]; do shift; done
