@@ -51,14 +51,6 @@ fresh() {
     cp -r "$demo" folder
 }
 
-# refuses NAME TEXT WORD..: the command line is refused with status 2, and standard error has this text
-refuses() {
-    name=$1 text=$2
-    shift 2
-    ./program "$@" >output 2>error
-    is "$name" "$? $(wc -c <output) $(grep -cF -- "$text" error | sed 's/[1-9]/some/')" '2 0 some'
-}
-
 # tells NAME TEXT..: the words of NAME print a line with each text to standard output, and nothing to standard error
 tells() {
     name=$1
@@ -96,17 +88,24 @@ python3 "$top/tests/oracle/running.py" raw >raw.text 2>/dev/null
 # the command line
 for word in --help -h; do tells $word '--workers' '--any-sum' '--any-run' '--unknown-zero' '--check' 'FOLDER'; done
 tells --version '^acpidis [0-9]'
-refuses 'no word' FOLDER
-refuses 'options without a folder' FOLDER --check
-refuses 'two folders' folder folder folder
-refuses 'an option that there is not' --nothing --nothing folder
-refuses 'a word that is no text' '' "$(printf 'a\377')"
-refuses 'no worker' --workers --workers 0 folder
-refuses 'too many workers' --workers --workers 65 folder
-refuses 'more workers than a number holds' --workers --workers 4294967297 folder
-refuses 'workers that are no number' --workers --workers x folder
-refuses 'workers without a number' --workers folder --workers
-refuses 'a check with a value' --check --check=yes folder
+# these are refused with status 2, and standard error has this text
+# shellcheck disable=SC2086
+while IFS='|' read -r name text words; do
+    ./program $words >output 2>error
+    is "$name" "$? $(wc -c <output) $(grep -cF -- "$text" error | sed 's/[1-9]/some/')" '2 0 some'
+done <<T
+no word|FOLDER|
+options without a folder|FOLDER|--check
+two folders|folder|folder folder
+an option that there is not|--nothing|--nothing folder
+a word that is no text||$(printf 'a\377')
+no worker|--workers|--workers 0 folder
+too many workers|--workers|--workers 65 folder
+more workers than a number holds|--workers|--workers 4294967297 folder
+workers that are no number|--workers|--workers x folder
+workers without a number|--workers|folder --workers
+a check with a value|--check|--check=yes folder
+T
 
 # options
 shows 'one table' folder
@@ -190,36 +189,34 @@ row 'a link to a folder' 0 '' ./program link
 # on_terminal WORD..: the program with these words, for which standard error is a terminal
 on_terminal() {
     python3 -c 'import pty, sys; sys.exit(pty.spawn(sys.argv[1:]) >> 8)' \
-        sh -c 'stty -onlcr; exec ./program "$@" >output' - "$@" >&2
+        sh -c 'stty -onlcr; exec ./program "$@" >output' - "$@" >&2 </dev/null
 }
-try_any_run='acpidis: try --any-run, which takes what a run would declare; acpidis-refused FOLDER shows what stands there'
-ask_refused='acpidis: acpidis-refused FOLDER shows what stands there, and ways on'
-ask_in_any_run='acpidis: acpidis-refused --any-run FOLDER shows what stands there, and ways on'
+try_any_run='try --any-run, which takes what a run would declare; acpidis-refused FOLDER shows what stands there'
+ask_refused='acpidis-refused FOLDER shows what stands there, and ways on'
+ask_in_any_run='acpidis-refused --any-run FOLDER shows what stands there, and ways on'
 
-# led NAME LINE WAY WORD..: this line, and behind it the way on
-led() {
-    name=$1 line=$2 way=$3
-    shift 3
-    row "$name, to a terminal" 1 "$line
-$way" on_terminal "$@"
-}
 mkdir named
 table twice/dsdt.dat DSDT 084141414100084141414100
 table scope/dsdt.dat DSDT 100541414141
 table alias/dsdt.dat DSDT 064242424241414141
 table return/dsdt.dat DSDT A400
 : >'named/: Duplicate \'
-led 'code outside methods' 'acpidis: table "dsdt.dat": ModuleCode at 0' "$try_any_run" --any-sum code
-led 'a path declared twice' 'acpidis: table "dsdt.dat": Duplicate \AAAA' "$try_any_run" twice
-led 'a Scope that is not there' 'acpidis: table "dsdt.dat": ScopeMissing \AAAA' "$try_any_run" scope
-led 'an Alias of nothing' 'acpidis: table "dsdt.dat": AliasMissing \BBBB' "$ask_refused" alias
-led 'a Return in any run' 'acpidis: table "dsdt.dat": ModuleCode at 0' "$ask_in_any_run" --any-run return
-led 'a wrong checksum' 'acpidis: table "ssdt1.dat": BadSum' "$ask_refused" summed
-led 'a file that is named as a refusal' 'acpidis: table ": Duplicate \x5C": Short' "$ask_refused" named
-led 'no tables' 'acpidis: NoDsdt' "$ask_refused" empty
-led 'no folder' 'acpidis: cannot read folder' "acpidis: \"nowhere\" isn't there" nowhere
-led 'a file' 'acpidis: cannot read folder' \
-    "acpidis: \"file\" is a file: put it into a folder, and name that; acpidis-unpack takes acpidump's text" file
+# shellcheck disable=SC2086
+while IFS='|' read -r name line way words; do
+    row "$name, to a terminal" 1 "acpidis: $line
+acpidis: $way" on_terminal $words
+done <<T
+code outside methods|table "dsdt.dat": ModuleCode at 0|$try_any_run|--any-sum code
+a path declared twice|table "dsdt.dat": Duplicate \AAAA|$try_any_run|twice
+a Scope that is not there|table "dsdt.dat": ScopeMissing \AAAA|$try_any_run|scope
+an Alias of nothing|table "dsdt.dat": AliasMissing \BBBB|$ask_refused|alias
+a Return in any run|table "dsdt.dat": ModuleCode at 0|$ask_in_any_run|--any-run return
+a wrong checksum|table "ssdt1.dat": BadSum|$ask_refused|summed
+a file that is named as a refusal|table ": Duplicate \x5C": Short|$ask_refused|named
+no tables|NoDsdt|$ask_refused|empty
+no folder|cannot read folder|"nowhere" isn't there|nowhere
+a file|cannot read folder|"file" is a file: put it into a folder, and name that; acpidis-unpack takes acpidump's text|file
+T
 row 'raw bodies, to a terminal' 3 "$raw_errors" on_terminal raw
 row 'nothing to say, to a terminal' 0 '' on_terminal folder
 

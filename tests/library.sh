@@ -19,8 +19,7 @@ fi
 
 # The page takes what is committed; this takes what is there, so that a change is tried before it is committed.
 mkdir jigmadder mine
-(cd -- "$top" && tar -cf - --exclude=out HANDLES crates.txt crates) |
-    tar -xf - -C jigmadder || exit 1
+(cd -- "$top" && tar -cf - --exclude=out HANDLES crates.txt crates) | tar -xf - -C jigmadder || exit 1
 cd jigmadder && git init -q . && git add -A &&
     git -c user.name=test -c user.email=test@localhost commit -qm all || exit 1
 
