@@ -62,9 +62,7 @@ tells() {
 }
 
 # cut_off NAME BYTES: status 4 in the file status, and on standard error the one line that a write failed after so many bytes
-cut_off() {
-    is "$1" "$(cat status) $(sed "s/^acpidis: write failed after $2 bytes\$/that/" error)" '4 that'
-}
+cut_off() { is "$1" "$(cat status) $(sed "s/^acpidis: write failed after $2 bytes\$/that/" error)" '4 that'; }
 
 # table FILE SIGNATURE AML: writes a table with this AML, which is given in hexadecimal digits, and makes its folder
 table() {

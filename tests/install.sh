@@ -20,10 +20,9 @@ prefix="$work/a prefix"
 said=$(umask 077 && PREFIX=$prefix sorted "$top/install")
 is 'what is said' "$said" "$(files "$prefix")"
 page=$prefix/share/man/man1/acpidis.1
-shells="bash-completion/completions/acpidis zsh/site-functions/_acpidis fish/vendor_completions.d/acpidis.fish"
-for file in bin/acpidis share/man/man1/acpidis.1 $(printf 'share/%s ' $shells) share/doc/acpidis/refusals.md; do
-    file=$prefix/$file
-    is "$file" "$(printf '%s\n' "$said" | grep -cxF -- "$file")" 1
+for file in bin/acpidis share/man/man1/acpidis.1 share/doc/acpidis/refusals.md share/zsh/site-functions/_acpidis \
+    share/bash-completion/completions/acpidis share/fish/vendor_completions.d/acpidis.fish; do
+    is "$prefix/$file" "$(printf '%s\n' "$said" | grep -cxF -- "$prefix/$file")" 1
 done
 is 'it runs' "$("$prefix/bin/acpidis" "$demo")" "$(cat "$sources/stdout")"
 is 'it is what the launcher runs' "$(cksum <"$prefix/bin/acpidis")" "$(cksum <"$("$top/acpidis" --program)")"
@@ -133,8 +132,7 @@ DESTDIR=$work/package "$top/install" --remove >/dev/null
 is 'a package that is taken away' "$(files package)" ''
 is 'help' "$("$top/install" --help | head -n 1)" 'Usage: [PREFIX=..] [DESTDIR=..] [PROGRAM=..] [LIBRARY=..] ./install [--library] [--remove]'
 is 'another word' "$("$top/install" --delete 2>&1 | head -n 1 | cut -c 1-6)" 'Usage:'
-"$top/install" --remove more >/dev/null 2>&1
-is 'two words' "$?" 2
+is 'two words' "$("$top/install" --remove more 2>/dev/null; echo "$?")" 2
 is 'a prefix that is no whole path' "$(PREFIX=usr "$top/install" 2>&1)" 'install: PREFIX has to begin with /: usr'
 is 'an empty prefix' "$(PREFIX='' "$top/install" 2>&1)" 'install: PREFIX has to begin with /: '
 mkdir shut
