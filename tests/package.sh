@@ -103,9 +103,7 @@ has 'that no licence is given' 'Licence: none is given. copyright has the licenc
 how=$(grep -F 'find src' papers/made_of.txt)
 crates=$(sed -n 's/^  [0-9a-f]\{64\}  //p' papers/made_of.txt)
 is 'all crates of the program' "$(printf '%s\n' "$crates" | wc -l)" 18
-for crate in $crates; do
-    has "the crate $crate" "  $(cd "first/crates/$crate" && eval "$how" | cut -c 1-64)  $crate"
-done
+for crate in $crates; do has "the crate $crate" "  $(cd "first/crates/$crate" && eval "$how" | cut -c 1-64)  $crate"; done
 for library in clap smallvec strsim; do
     is "the licence of $library" "$(grep -c "^$library [0-9.]*$" papers/copyright)" 1
 done
