@@ -172,8 +172,8 @@ fi
 
 is 'help' "$("$survey" --help | head -n 1 | cut -c 1-12)" 'Runs acpidis'
 
-# collect.sh, with another ssh: a host that sends tables, one that sends half of them, one that fails, one that is silent, and
-# what is in the folders of `sent`
+# collect.sh, with another ssh: a host that sends tables, one that sends half of them, one that fails, one that is silent;
+# others send a folder of `sent`
 collect=$top/examples/collect.sh
 script commands/ssh <<S
 #!/bin/sh
