@@ -189,9 +189,9 @@ on_terminal() {
     python3 -c 'import pty, sys; sys.exit(pty.spawn(sys.argv[1:]) >> 8)' \
         sh -c 'stty -onlcr; exec ./program "$@" >output' - "$@" >&2 </dev/null
 }
-try_any_run='try --any-run, which takes what a run would declare; acpidis-refused FOLDER shows what stands there'
-ask_refused='acpidis-refused FOLDER shows what stands there, and ways on'
-ask_in_any_run='acpidis-refused --any-run FOLDER shows what stands there, and ways on'
+try_any_run='try --any-run, which takes what a run would declare; acpidis-refused FOLDER, with your options, shows what stands there'
+ask_refused='acpidis-refused FOLDER, with your options, shows what stands there, and ways on'
+ask_in_any_run='acpidis-refused --any-run FOLDER, with your options, shows what stands there, and ways on'
 
 mkdir named
 table twice/dsdt.dat DSDT 084141414100084141414100

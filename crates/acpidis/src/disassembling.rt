@@ -188,7 +188,7 @@ pub(crate) fn load_names_set<'a, S: TableSink>(
     Ok(loaded)
 }
 
-/// Disassembles a set of dumps by so many workers, 1 to 64, each on a thread of its own.
+/// Disassembles a set of dumps by so many workers, 1 to 64, each on a thread of its own, the caller's among them.
 ///
 /// A body that can't be read is raw, and refuses nothing.
 pub fn disassemble<'a, R: Threads + Wait + Sync, G: Gate + Sync>(

@@ -43,13 +43,13 @@ impl<'a> fmt::Display for WayOn<'a> {
                 )
             }
             WayOn::AnyRun => f.write_str(
-                "try --any-run, which takes what a run would declare; acpidis-refused FOLDER shows what stands there",
+                "try --any-run, which takes what a run would declare; acpidis-refused FOLDER, with your options, shows what stands there",
             ),
             WayOn::Refused { any_run } => {
                 let option = if *any_run { "--any-run " } else { "" };
                 write!(
                     f,
-                    "acpidis-refused {option}FOLDER shows what stands there, and ways on",
+                    "acpidis-refused {option}FOLDER, with your options, shows what stands there, and ways on",
                 )
             }
         }

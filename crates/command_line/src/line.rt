@@ -17,7 +17,7 @@ const ABOUT: &str =
 const STATUSES: &str = "\
 Exit status:
   0  all is printed; with --check, each table is the same
-  1  the folder or a table is refused, and nothing is printed; with --check, a table differs
+  1  the folder or a table is refused, and nothing is printed
   2  the command line is at fault
   3  all is printed, and the body of a method can't be read: it stands there as its bytes
   4  standard output took no more";
@@ -103,7 +103,7 @@ fn command<'a>(alloc: Global, version: &'a str) -> Result<Command<'a>, Error> {
         flag(
             alloc,
             "unknown-zero",
-            "Read a name in a body as one without arguments where no table tells how many it has",
+            "Take a name whose count nothing tells for one without arguments (with --any-run outside bodies too)",
         ),
         flag(
             alloc,
@@ -129,9 +129,7 @@ fn workers<'a>(alloc: Global) -> Arg<'a> {
     Arg::new(alloc, "workers")
         .long("workers")
         .value_name("N")
-        .help(
-            "How many workers read the bodies of methods, 1 to 64; the text is the same for each number",
-        )
+        .help("How many workers share the work, 1 to 64; the text is the same for each number")
         .value_parser(value_parser!(u32).range(1..=64))
         .default_value("4")
 }
