@@ -6,7 +6,7 @@ usage: bench/stack.py [ACPIDIS]
 gdb has to be there (Debian: apt-get install gdb). Each set is one table with a method, or with terms outside the
 methods, nested as deep as is read. The program lists it, and checks it with --check, by one worker. At each advice to
 the system, as the C library gives when a thread ends, gdb stops the program, and the script adds up what was touched
-of the stack on which all is read, printed and checked. The script is no part of the gate."""
+of the stack on which all is read, printed and checked. The script is no part of ./test."""
 import re
 import shlex
 import subprocess

@@ -59,10 +59,10 @@ printf '#!/bin/sh\necho no proof\nexit 1\n' | script commands/rt
 at_fault='acpidis: the build failed at the crate aml_names'
 row 'a build that fails' 126 "$at_fault" env RT_JOBS=1 PATH="$path" copy/acpidis demo
 row 'what the build said' 126 'no proof' env PATH="$path" copy/acpidis demo
-is 'half an hour is announced only where nothing is built' "$(grep -c 'half an hour' printed)" 0
+is 'an hour is announced only where nothing is built' "$(grep -c 'an hour' printed)" 0
 rm -r copy/crates/acpidis_program/out
-hour='acpidis: building, which takes half an hour or more the first time, since every crate is proved'
-row 'half an hour' 126 "$hour" env PATH="$path" copy/acpidis demo
+hour='acpidis: building, which takes an hour of processor time the first time, since all that is built is proved'
+row 'an hour' 126 "$hour" env PATH="$path" copy/acpidis demo
 is 'a failed build leaves no program' "$(find copy -name 'acpidis.*')" ''
 
 # where one crate fails, the others are ended

@@ -1,7 +1,7 @@
 #!/bin/sh
 # Makes the repository of docs/library.md by the commands of that page, which takes a second, and compares what the page
 # shows. With --try the example is built without a proof and run there, in about a minute; with --prove all is
-# proved first, in half an hour. The last line is 'N passed, N failed'.
+# proved first, in about an hour of processor time. The last line is 'N passed, N failed'.
 
 . "$(dirname -- "$0")/rows.sh"
 page=$top/docs/library.md

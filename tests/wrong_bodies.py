@@ -118,7 +118,7 @@ def read_wrong_body(name, text, folder):
 
 
 def wrong_bodies(folder, outside):
-    """The wrong bodies of a crate: those that the gate tries, or the others."""
+    """The wrong bodies of a crate: those that ./test tries, or the others."""
     texts = []
     for file in sorted(Path(folder).glob("wrong-bodies.edits" if outside else "must-fail/*.edit")):
         text = file.read_text()
