@@ -54,7 +54,8 @@ def sheet_of(asked: argparse.Namespace) -> Sheet:
     if asked.compare:
         with command.reading(asked.compare, NO_LISTING):
             other = Sheet(text_of(asked.compare, most))
-        sheet.comparison = compare(sheet.decoder, other.decoder, name_of(asked.compare))
+        name = name_of(asked.compare)
+        sheet.comparison = compare(sheet.decoder, other.decoder, f"the other {name}" if name == sheet.name else name)
     return sheet
 
 

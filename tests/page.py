@@ -243,7 +243,18 @@ class Checks(Tally):
         self.is_same("what differs", found, [("added", "\\NEW_"), ("lacking", "\\CALL"), ("changed", "\\BAR_")])
         self.is_same("elements of a comparison", read_page(html).elements - ELEMENTS, set())
         same = self.page(one, "--compare", self.text("other", one.out))
-        self.is_same("what differs from itself", re.findall("<li class=", same), [])
+        self.is_same("what differs from itself", re.findall("<li class=|<p>No difference", same), ["<p>No difference"])
+
+    def check_comparison_outside(self) -> None:
+        """Files of one name, whose code outside methods differs, and lines of a table that one has."""
+        code = lambda value: b"\xA0\x0A\x93" + bytes([value]) + b"\x01\x08FOO_\x01"
+        for name, found in {"old": code(0), "new": code(1) + b"\x08NEW_\x01"}.items():
+            folder = written(self.room / name, {"dsdt.dat": table(b"DSDT", found)})
+            outcome = run_folder(folder, Options(any_run=True))
+            self.text(f"{name}/mine.text", outcome.out)
+        html = self.says("two of a name", ["page.py", "--compare", "new/mine.text", "old/mine.text"], 0)
+        found = re.findall(r"<summary>((?:1 path|The texts).*?)</s|<(ins|del)>(.*?)(?: Rev.*)?</", html)
+        self.is_told("files of one name", found)
 
     def check_comparison_lines(self) -> None:
         """The lines that differ, in a method whose middle is another, and in a table."""
@@ -256,10 +267,10 @@ class Checks(Tally):
         numbers = re.findall(r"<(?:p|tr|summary) id=(\d+) class=differs>", html)
         marked = [lines[int(number) - 1].strip() for number in numbers]
         self.is_same("the lines that differ", marked, [lines[1], "Store (0x05, Local1)"])
-        shown = re.findall("<(ins|del)>(.*?)</", html)
-        self.is_same("both lines", shown, [("del", "  Store (0x05, Local1)"), ("ins", "  Store (0x06, Local1)")])
+        shown = re.findall("<(ins|del)>(?:  |.*?quot; &quot;)(.*?)(?:&quot; Len.*)?</", html)
+        wanted = [("del", "OEM5"), ("ins", "OEM6"), ("del", "Store (0x05, Local1)"), ("ins", "Store (0x06, Local1)")]
+        self.is_same("both lines", shown, wanted)
         self.is_same("whose they are", "1 path that other has otherwise than" in html, True)
-        self.is_same("the other's tables", "\"OEM6\"" in html.replace("&quot;", '"'), True)
 
     def check_differences(self) -> None:
         """Each text stands in the differences of two, whatever both are; and large ones take no long time."""

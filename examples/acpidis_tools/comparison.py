@@ -17,12 +17,15 @@ MOST_PAIRS = 10_000
 # The text of a declaration, in lines, each with the number of the line that it is of.
 Said = list[tuple[int, str]]
 Text = tuple[str, ...]
+# Lines, each with `del` where the first of two texts alone has it, `ins` where the second, and nothing where both
+Marked = list[tuple[str, str]]
 
 
-class Comparison(namedtuple("Comparison", "other adds lacks changes here lines tables")):
+class Comparison(namedtuple("Comparison", "other adds lacks changes here lines tables outside is_same")):
     """What another listing says: the texts of the paths that it adds and of those that it changes, and the paths that
-    it lacks, with the texts here of those that it changes; the numbers of the lines here that differ; and of the
-    tables, by their files, the lines that it alone has, None where it has no such file."""
+    it lacks, with the texts here of those that it changes; the numbers of the lines here that differ; of the tables, by
+    their files, the lines that differ, None where it has no such file; those that do outside declarations; and whether
+    the lines of both are the same."""
 
     def mark(self, path: Path) -> str:
         """How a path differs, in a word, and nothing where it doesn't."""
@@ -35,9 +38,12 @@ def compare(one: Decoder, other: Decoder, name: str) -> Comparison:
     changed = [path for path in sorted(here.keys() & there.keys()) if text_of(here[path]) != text_of(there[path])]
     lines = {number for path in changed for number in different_lines(here[path], text_of(there[path]))}
     tables, table_lines = compare_tables(one.listing.dumps, other.listing.dumps)
+    outside, outside_lines = alone(lines_outside(one, here), lines_outside(other, there))
+    is_same = not tables and [it.text for it in one.listing.lines] == [it.text for it in other.listing.lines]
+    lines |= table_lines | outside_lines
     adds = {path: text_of(there[path]) for path in sorted(there.keys() - here.keys())}
     ours, theirs = ({path: text_of(texts[path]) for path in changed} for texts in (here, there))
-    return Comparison(name, adds, here.keys() - there.keys(), theirs, ours, lines | table_lines, tables)
+    return Comparison(name, adds, here.keys() - there.keys(), theirs, ours, lines, tables, outside, is_same)
 
 
 def text_of(said: Said) -> Text:
@@ -52,8 +58,8 @@ def alike(here: Text, there: Text) -> tuple[int, int]:
     return first, next((place for place in range(rest) if here[-1 - place] != there[-1 - place]), rest)
 
 
-def differences(here: Text, there: Text) -> list[tuple[str, str]]:
-    """The lines of two texts in their order, each with `del` where the first alone has it, `ins` where the second."""
+def differences(here: Text, there: Text) -> Marked:
+    """The lines of two texts in their order."""
     first, last = alike(here, there)
     ours, theirs = here[first:len(here) - last], there[first:len(there) - last]
     found = [("", line) for line in here[:first]]
@@ -77,6 +83,20 @@ def different_lines(here: Said, there: Text) -> list[int]:
         others[text] -= 1
         numbers += [number] if others[text] < 0 else []
     return numbers
+
+
+def alone(here: Said, there: Said) -> tuple[Marked, set[int]]:
+    """The lines that one of two texts alone has, and the numbers of those here."""
+    ours, theirs = set(different_lines(here, text_of(there))), set(different_lines(there, text_of(here)))
+    marked = [("del", text) for number, text in here if number in ours]
+    return marked + [("ins", text) for number, text in there if number in theirs], ours
+
+
+def lines_outside(decoder: Decoder, texts: dict[Path, Said]) -> Said:
+    """The lines that no declaration's text has, as those of code outside methods, but for the ends of blocks."""
+    inside = {number for said in texts.values() for number, _ in said}
+    lines = (line for line in decoder.listing.lines if line.number not in inside and line.term)
+    return [(line.number, line.bare) for line in lines]
 
 
 def texts_of(decoder: Decoder) -> dict[Path, Said]:
@@ -110,15 +130,15 @@ def shortened(line: Line) -> str:
     return text if len(text) <= LONGEST else f"{text[:LONGEST]}.. {hashlib.sha256(text.encode()).hexdigest()}"
 
 
-def compare_tables(here: list[Dump], there: list[Dump]) -> tuple[dict[str, Text | None], set[int]]:
-    """For each file whose lines differ what the other listing alone has of it, None where it has no such file, and the
-    numbers of the lines here that it hasn't."""
+def compare_tables(here: list[Dump], there: list[Dump]) -> tuple[dict[str, Marked | None], set[int]]:
+    """For each file whose lines differ those that do, None where the other listing has no such file, and the numbers of
+    the lines here that it hasn't."""
     ours, theirs = ({it.file: [(it.number, it.text), *it.notes] for it in dumps} for dumps in (here, there))
     tables, numbers = {}, set()
     for file in sorted(ours.keys() | theirs.keys()):
         one, other = ours.get(file, []), theirs.get(file, [])
         if text_of(one) != text_of(other):
-            numbers.update(different_lines(one, text_of(other)))
-            lacking = set(different_lines(other, text_of(one)))
-            tables[file] = tuple(text for number, text in other if number in lacking) if other else None
+            lines, lacking = alone(one, other)
+            numbers |= lacking
+            tables[file] = lines if other else None
     return tables, numbers

@@ -10,7 +10,7 @@ import re
 from html import escape
 from string import Template
 
-from acpidis_tools.comparison import differences
+from acpidis_tools.comparison import Comparison, Marked, differences
 from acpidis_tools.errors import raw_lines
 from acpidis_tools.listing import HEADER, TEXT, Dump, Listing, path_text
 from acpidis_tools.names import PREDEFINED
@@ -93,8 +93,14 @@ def tables_html(sheet: Sheet) -> list[str]:
     return [head, *map(rows, sheet.listing.dumps), "</table></div>\n</section>\n"]
 
 
+def marked_html(lines: Marked) -> str:
+    """Lines of two listings: those that one alone has get `-` or `+` from the page's style."""
+    shown = (f"<{mark}>{escape(line)}</{mark}>" if mark else escape(line) for mark, line in lines)
+    return "<pre>" + "\n".join(shown) + "</pre>"
+
+
 def table_changes_html(sheet: Sheet) -> list[str]:
-    """The tables whose lines differ, with those that the other listing alone has."""
+    """The tables with the lines that differ."""
     tables = sheet.comparison.tables if sheet.comparison else {}
     if not tables:
         return []
@@ -103,8 +109,7 @@ def table_changes_html(sheet: Sheet) -> list[str]:
     for file, lines in tables.items():
         name = escape(file[1:-1])
         head = f"<a href=#{numbers[file]}>{name}</a>" if file in numbers else f"{name}, here not"
-        shown = " isn't there" if lines is None else " lacks lines"
-        shown = f"<pre>{escape(chr(10).join(lines))}</pre>" if lines else shown
+        shown = " isn't there" if lines is None else marked_html(lines) if lines else " has its lines in another order"
         items.append(f"<li class=changed>{head}{shown}</li>\n")
     return [*folded_list(f"{counted(len(items), 'table')} that it has otherwise", items, True), "\n"]
 
@@ -122,17 +127,25 @@ def comparison_html(sheet: Sheet) -> list[str]:
         head, shown = f"<details{anchor}><summary>{path_text(path)}</summary>", escape("\n".join(text))
         adds.append(f"<li class=added>{head}<pre>{shown}</pre></details></li>\n")
     for path, text in found.changes.items():
-        # Lines that this listing alone has are struck out, those of the other one stand where it has them.
-        lines = differences(found.here[path], text)
-        shown = "\n".join(f"<{mark}>{escape(line)}</{mark}>" if mark else escape(line) for mark, line in lines)
         head = f"<details id=c{sheet.names.lines[path].number}><summary>{links[path]}</summary>"
-        changes.append(f"<li class=changed>{head}<pre>{shown}</pre></details></li>\n")
+        shown = marked_html(differences(found.here[path], text))
+        changes.append(f"<li class=changed>{head}{shown}</details></li>\n")
     written = [f"<section id=comparison><h2>Beside {escape(found.other)}</h2>\n", *table_changes_html(sheet)]
     ours, theirs = escape(sheet.name), escape(found.other)
-    kinds = {f"{theirs} alone has": adds, f"{ours} alone has": lacks, f"{theirs} has otherwise than {ours}": changes}
-    for word, items in kinds.items():
+    kinds = [f"{theirs} alone has", f"{ours} alone has", f"{theirs} has otherwise than {ours}"]
+    for word, items in zip(kinds, (adds, lacks, changes)):
         written += [*folded_list(f"{counted(len(items), 'path')} that {word}", items, len(items) <= MOST_OPEN), "\n"]
-    return [*written, "</section>\n"]
+    return [*written, *outside_html(found), "</section>\n"]
+
+
+def outside_html(found: Comparison) -> list[str]:
+    """What else differs, where anything does."""
+    if found.outside:
+        head = f"The texts differ in {counted(len(found.outside), 'more line')} outside declarations"
+        return folded_list(head, [f"<li class=changed>{marked_html(found.outside[:MOST_OPEN])}</li>\n"], True)
+    if found.adds or found.lacks or found.changes or found.tables:
+        return []
+    return [f"<p>{'No difference' if found.is_same else 'The same lines in another order'}</p>\n"]
 
 
 def title_of(listing: Listing) -> str:
