@@ -14,6 +14,7 @@ import io
 import json
 import os
 import pathlib
+import re
 import sqlite3
 import sys
 from collections.abc import Iterator
@@ -71,6 +72,9 @@ class Read:
         return [tuple(told(row, column) for column in columns.split()) for row in self.of(table)]
 
 
+# The questions of docs/facts.md, from 1 on
+ASKED = re.findall(r'ask.py facts "(.*?)"$', (TOP / "docs/facts.md").read_text().replace("\n> ", "\n"), re.DOTALL | re.M)
+QUESTIONS = dict(enumerate(ASKED, 1))
 # Facts of a folder, whose processes are ended at a text of these words, as by a system without memory, or get none.
 ENDS = """
 import os, sys
@@ -197,13 +201,14 @@ class Checks(Tally):
     def check_questions(self) -> None:
         """The questions of tests/facts.txt, each with a row of its answer a line."""
         self.run("facts.py", TOP / "tests/records.text", "records.facts")
-        for name in ("wired", "pci"):
+        for name in ("wired", "pci", "ports"):
             outcome = run_folder(written(self.room / name, tables(*SETS[name])), Options())
             self.run("facts.py", self.text(f"{name}.text", outcome.out), f"{name}.facts")
         for head, rows in parts_in("facts.txt")[1:]:
             (name, _, file), lines = head.rpartition(": "), rows.split("\n")
             wanted = [ast.literal_eval(line) for line in lines if line.startswith("(")]
-            found = self.rows(file, " ".join(line for line in lines if not line.startswith("(")))
+            sql = " ".join(line for line in lines if not line.startswith("("))
+            found = self.rows(file, QUESTIONS[int(sql)].replace("EmbeddedControl", "SystemIO") if sql.isdigit() else sql)
             self.is_same(name, found, wanted)
 
     def check_words(self) -> None:
