@@ -10,9 +10,18 @@
 # went wrong is said with the host in front, and then the status is 1. Start it again to ask those hosts again that have no
 # folder yet.
 
+# is_host HOST: whether it is a word that may be a folder's name, and no option of ssh
+is_host() {
+    case $1 in -* | .* | */* | *[!A-Za-z0-9._@:-]*) return 1 ;; esac
+}
+
 # one HOST: its tables
 one() {
     : "${SETS:?is to name the folder of the sets}"
+    if ! is_host "$1"; then
+        printf '%s\n' "$1: no name of a host" | LC_ALL=C tr -dc ' -~\n' >&2
+        exit 1
+    fi
     part=$(mktemp -d -- "$SETS/.part.XXXXXX") || exit 1
     trap 'chmod -R u+rwX -- "$part"; rm -rf -- "$part"' EXIT
     start=$(date +%s)
@@ -22,7 +31,8 @@ one() {
         sudo -n tar -C /sys/firmware/acpi/tables -cf - . 2>"$part/said" >"$part/tar"
     status=$?
     if [ "$status" = 0 ]; then
-        unpack "$part" 2>"$part/said" && mv -T -- "$part/set" "$SETS/$1" 2>"$part/said" || status=1
+        { unpack "$part" && mv -T -- "$part/set" "$SETS/$1"; } 2>"$part/told" || status=1
+        head -n 1 -- "$part/told" >"$part/said" # the first line has the reason
     fi
     printf '%s\t%s\t%s\n' "$1" "$status" $(($(date +%s) - start)) >>"$SETS/log"
     case $status in
@@ -72,11 +82,9 @@ case $1 in
 esac
 mkdir -p -- "$2" || exit 1
 export SETS="$2"
-# A host is a word that may be a folder's name, and no option of ssh.
-while read -r host; do
-    case $host in
-    '' | '#'*) ;;
-    -* | .* | */* | *[!A-Za-z0-9._@:-]*) echo "$host: no name of a host" >&2 ;;
-    *) [ -d "$SETS/$host" ] || printf '%s\0' "$host" ;;
-    esac
-done <"$1" | xargs -0 -r -n 1 -P "${3:-16}" "$0" --one || exit 1
+end=$(printf '\r') # of a line on Windows
+while read -r host || [ -n "$host" ]; do
+    host=${host%"$end"}
+    case $host in '' | '#'*) continue ;; esac
+    if ! is_host "$host" || [ ! -d "$SETS/$host" ]; then printf '%s\0' "$host"; fi
+done <"$1" | LC_ALL=C sort -zu | xargs -0 -r -n 1 -P "${3:-16}" "$0" --one || exit 1

@@ -169,6 +169,17 @@ ones() {
     done
 }
 
+# check_counts OPTION..: tries the file of --externals once, by a folder that has no table
+check_counts() {
+    local room said
+    room=$(mktemp -d) || exit
+    said=$("$ACPIDIS" --check "$@" -- "$room" 2>&1 </dev/null)
+    rmdir -- "$room"
+    [ "$said" = 'acpidis: NoDsdt' ] && return
+    printf '%s\n' "$said" >&2
+    exit 2
+}
+
 survey() {
     find_program
     open_results "$1" "$2"
@@ -177,6 +188,7 @@ survey() {
     local sets=$1 results=$2 folders batch
     shift 2
     "$ACPIDIS" --check --workers 1 "$@" --help >/dev/null || exit
+    case " $*" in *' --externals'*) check_counts "$@" ;; esac
     mapfile -d '' folders < <(left "$sets" "$results")
     if [ ${#folders[@]} -gt 0 ]; then
         # One process writes the file, and each line comes to it whole.

@@ -12,6 +12,9 @@ sorted() { "$@" 2>&1 | LC_ALL=C sort; }
 prefix="$work/a library's prefix"
 mkdir library && touch library/libacpidis.so.0 library/libacpidis.a library/acpidis.pc
 said=$(LIBRARY=$work/library PREFIX=$prefix sorted "$top/install" --library)
+module="PYTHONPATH=$prefix/lib/python3/dist-packages ACPIDIS_LIBRARY=$prefix/lib/libacpidis.so.0"
+is 'what to set' "$(printf '%s\n' "$said" | sed -n 's/^install: //p')" "C finds it after ldconfig, Python by $module"
+said=$(printf '%s\n' "$said" | grep -v '^install: ')
 is 'what is said of the library' "$said" "$(files "$prefix")"
 is 'what the library is' "$(files "$prefix" | wc -l)" 8
 is 'what is said of its removal' "$(PREFIX=$prefix sorted "$top/install" --remove)" "$said"

@@ -56,6 +56,8 @@ is 'a cut line is made anew' "$(lines fewer)" "$(cat wanted)"
 # what is at fault in the command stops it, and leaves no line
 "$survey" sets none --no-such-option >/dev/null 2>&1
 is 'a wrong option' "$? $(cat none)" '2 '
+"$survey" sets none --externals nosuch 2>said
+is 'no file of counts' "$? $(cat none said)" '2 acpidis: cannot read "nosuch"'
 ACPIDIS=/none/acpidis "$survey" sets none >/dev/null 2>&1
 is 'no program' "$? $(cat none)" '1 '
 mkdir nothing
@@ -185,6 +187,7 @@ half) tar -C '$demo' -cf - . | head -c 1040 ;;
 late) sleep 9 ;;
 large) head -c 3000000 /dev/zero ;;
 loud) head -c 100000 /dev/zero | tr '\\0' x >&2; printf '\\nno \\033[31mway\\007\\n' >&2; exit 1 ;;
+greets) echo Welcome; exec tar -C '$demo' -cf - . ;;
 packed) exec tar -C '$work/sent/packed' -czf - . ;;
 odd1 | many | sparse | deep) exec tar -S -C "$work/sent/\$2" -cf - . ;;
 *) echo first >&2; echo "no way to \$2" >&2; exit 255 ;;
@@ -201,7 +204,8 @@ head -c 900000 /dev/zero | tee sent/packed/one >sent/packed/two
 touch sent/many/{1..4200}
 truncate -s 40M sent/sparse/one sent/sparse/two
 # shellcheck disable=SC2016
-printf '%s\n' good1 dead '# a line' '' late half '-oProxyCommand=touch bad' '../out' 'a b' '$(touch bad)' good2 >hosts
+printf '%s\n' good1 dead '# a line' '' late half '-oProxyCommand=touch bad' '../out' 'a b' '$(touch bad)' >hosts
+printf '%s' $'dead\n\r\ngreets\r\ngood2' >>hosts
 is 'hosts from a pipe' "$(timeout 9 "$collect" pipe collected 2>&1; echo "$?")" \
     $'acpidis-collect: pipe is a pipe, which may never end\n2'
 is 'no hosts' "$("$collect" nowhere collected 2>&1; echo "$?"; ls -d collected 2>/dev/null)" $'acpidis-collect: cannot read nowhere\n2'
@@ -211,15 +215,16 @@ collected COLLECT_SECONDS=1
 is 'the status of a collection' "$?" 1
 is 'what came' "$(cd collected && find . -type f ! -name log | LC_ALL=C sort | tr '\n' ' ')" './good1/dsdt.dat ./good2/dsdt.dat '
 # shellcheck disable=SC2016 # a host's name, not a command
-is 'hosts in the errors' "$(cut -d : -f 1 errors | LC_ALL=C sort | tr '\n' '|')" '$(touch bad)|-oProxyCommand=touch bad|../out|a b|dead|half|late|'
+is 'hosts in the errors' "$(cut -d : -f 1 errors | LC_ALL=C sort | tr '\n' '|')" '$(touch bad)|-oProxyCommand=touch bad|../out|a b|dead|greets|half|late|'
 is 'the last line of an error' "$(grep dead errors)" 'dead: no way to dead'
+is 'the first line of what tar said' "$(grep greets errors)" 'greets: tar: This does not look like a tar archive'
 is 'no answer' "$(grep late errors)" 'late: no answer in 1 seconds'
-is 'the log' "$(cut -f 1-2 collected/log | LC_ALL=C sort | tr '\t\n' ' |')" 'dead 255|good1 0|good2 0|half 1|late 124|'
+is 'the log' "$(cut -f 1-2 collected/log | LC_ALL=C sort | tr '\t\n' ' |')" 'dead 255|good1 0|good2 0|greets 1|half 1|late 124|'
 # shellcheck disable=SC2012 # the names are known
 is 'no part is left' "$(ls -A collected | tr '\n' ' ')" 'good1 good2 log '
 : >asked
 collected COLLECT_SECONDS=1
-is 'only those are asked again that have none' "$(sort asked | tr '\n' ' ')" 'dead half late '
+is 'only those are asked again that have none' "$(sort asked | tr '\n' ' ')" 'dead greets half late '
 is 'nothing ran' "$(find . -name 'bad*')" ''
 
 # what a host sends may be anything: too much, control bytes, links, rights
