@@ -4,7 +4,7 @@
     examples/ask.py FACTS SQL
 
 FACTS is what examples/facts.py made; it is only read. SQL is one question, or `-` for that of standard input. The first
-line has the names of the columns, the others the rows, with tabs between the values. docs/facts.md has the tables.
+line has the names of the columns, the others the rows, with tabs between the values. The page facts.md has the tables.
 
 Status 1 is a question that has no answer, or a file of something else; 2 a command line that is at fault, or a file that
 can't be read or written.

@@ -4,7 +4,7 @@
     python3 examples/calls.py [OPTION..] FOLDER
 
 Where an operator wants a target or an object, as SizeOf, Notify, Acquire and the last operand of Add do, the grammar
-of docs/grammar.md has no call with arguments. If a compiler wrote one, the arguments stand behind the operator as terms
+of grammar.md has no call with arguments. If a compiler wrote one, the arguments stand behind the operator as terms
 of their own, or the body is raw. Each line says where to look: the method or scope, the name, how many arguments its
 method takes, the operator, and the line of the text. CondRefOf, ObjectType and RefOf may name the method itself, and are listed
 only where a value that nothing takes stands on the next line.

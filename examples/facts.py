@@ -6,16 +6,14 @@
     examples/facts.py --json .. LISTING|TEXTS >facts.jsonl
 
 LISTING is what acpidis wrote to standard output, FILE what it wrote to standard error. TEXTS is a folder of many machines:
-each folder below it with a file `text` is one, and `errors` beside it is its standard error (docs/many.md); so is each
-file in TEXTS itself. FACTS is an SQLite file, which may take the place of older facts, and of nothing else; with --json each
+each folder below it with a file `text` is one, and `errors` beside it is its standard error (many.md); so is each
+file in TEXTS itself, but for hidden ones. FACTS is an SQLite file, which may take the place of older facts, and of nothing else; with --json each
 fact is a line of its own on standard output. With --dumps each table has the sum of its dump, from FOLDER or the folder of
-the same name below it. docs/facts.md has the tables, and what to ask.
+the same name below it. The page facts.md has the tables, and what to ask.
 
 Status 0 is that all machines have facts, 3 that one at least has none: its row says why. 1 is a text that is no listing,
 and 2 a command line, a file or an output that is at fault: with both, older facts stay.
 """
-
-from __future__ import annotations
 
 import argparse
 import contextlib
@@ -53,7 +51,7 @@ BLOCKS = re.compile(rb"^Namespace [0-9]", re.MULTILINE)
 class Machine:
     """A machine: its name, its listing, its standard error and the folder of its dumps."""
 
-    def __init__(self, name: str, text: pathlib.Path, errors: pathlib.Path | None, dumps: pathlib.Path | None):
+    def __init__(self, name: str, text: pathlib.Path, errors: "pathlib.Path | None", dumps: "pathlib.Path | None"):
         self.name, self.files = printable(name), (text, errors)
         self.fault, self.text, self.errors, self.tables, self.records, self.above = "", b"", b"", [], [], None
         self.lost = 0  # dumps that aren't there, or are others
@@ -83,7 +81,7 @@ class Machine:
         return read_file(str(text), MOST_BYTES), read_file(str(errors), MOST_BYTES) if errors else b""
 
 
-def sum_in(folder: pathlib.Path, dump: Dump) -> str | None:
+def sum_in(folder: pathlib.Path, dump: Dump) -> "str | None":
     """The sum of a dump of this folder, if it is there with the length that the listing has."""
     file, length = file_of(folder, dump.file), header_of(dump)[LENGTH]
     data = file.read_bytes() if file else b""
@@ -92,7 +90,7 @@ def sum_in(folder: pathlib.Path, dump: Dump) -> str | None:
     return hashlib.sha256(data).hexdigest() if is_this else None
 
 
-def file_of(folder: pathlib.Path, quoted: str) -> pathlib.Path | None:
+def file_of(folder: pathlib.Path, quoted: str) -> "pathlib.Path | None":
     """The dump of a file's name in quotes, if it is a plain file of the folder."""
     data = file_name(quoted)
     if data in (b"", b".", b"..") or b"/" in data or b"\0" in data:
@@ -176,7 +174,7 @@ class Facts:
     first one's text: `codes` has its row, or why there is none, and how many lines stand above it there, by its sum.
     `lacking` are the machines without facts, each with its fault, and so many dumps are `lost`."""
 
-    def __init__(self, sink: Database | Lines):
+    def __init__(self, sink: "Database | Lines"):
         self.sink = sink
         self.bases = dict.fromkeys(COLUMNS, 0)
         self.codes: dict[str, tuple[int | None, str, int]] = {}
@@ -220,7 +218,7 @@ def machines_of(asked: argparse.Namespace) -> Iterator[Machine]:
             errors = here / "errors" if "errors" in files else None
             yield Machine(str(name), here / "text", errors, dumps and dumps / name)
         elif here == top:
-            for file in sorted(files):
+            for file in sorted(file for file in files if not file.startswith(".")):
                 yield Machine(file, here / file, None, dumps and dumps / file)
 
 

@@ -28,6 +28,8 @@ LINE = re.compile(r'acpidis: (?:table "(?P<file>[^"]*)": )?(?P<word>\w+)(?: at (
 GIVEN = re.compile(r"(\\[A-Z0-9_.]+) ([0-7])")
 METHOD = re.compile(rb"\x14(?:[\x00-\x3f]|[\x40-\x4f].|[\x80-\x8f]..|[\xc0-\xcf]...)([A-Z_][A-Z0-9_]{3})(.)", re.DOTALL)
 
+AT_LINE = re.compile(r"(tables\.map|externals) line (\d+)")
+MOST_OF_LINE = 200
 DUMPED = re.compile(rb"\s*(?:RSD PTR|[A-Z0-9!_]{4}) @ 0x[0-9A-Fa-f]+\s")
 
 
@@ -37,7 +39,8 @@ def read_words(text):
     ways = dict(line.split(" ", 1) for line in named)
     ways_in = lambda cell: [ways.get(way, way) for way in cell.split("; ") if way]
     cells = lambda line: [cell.strip() for cell in line.split("|")]
-    return ways, *({word: (says, *map(ways_in, on)) for word, says, *on in map(cells, lines)} for lines in tables)
+    tables = ({word: (says, *map(ways_in, on)) for word, says, *on in map(cells, lines)} for lines in tables)
+    return (ways, *tables)
 
 
 WAYS, WORDS, RAN = read_words((pathlib.Path(command.__file__).parent / "refusals.txt").read_text())
@@ -242,13 +245,31 @@ def say_file(refusal, data):
         yield f"  at byte {refusal.at} stands {bytes_at(data, refusal.at)}"
 
 
-def say_folder(asked):
-    """What a folder has that isn't read: a name that isn't UTF-8, and links, which are passed over."""
-    folder = os.fsencode(asked.folder)
-    names = sorted(os.listdir(folder)) if os.access(folder, os.R_OK | os.X_OK) and os.path.isdir(folder) else []
-    for name in names:
-        if os.path.islink(os.path.join(folder, name)):
+def names_in(folder):
+    is_open = os.path.isdir(folder) and os.access(folder, os.R_OK | os.X_OK)
+    return sorted(os.listdir(folder)) if is_open else []
+
+
+def is_dsdt(file):
+    if os.path.islink(file) or not os.path.isfile(file) or not os.access(file, os.R_OK):
+        return False
+    with open(file, "rb") as it:
+        return it.read(4) == b"DSDT"
+
+
+def say_folder(asked, refusal):
+    """What a folder has that isn't read: a name that isn't UTF-8, links and folders, which are passed over; or the line
+    at fault of a file."""
+    folder, form = os.fsencode(asked.folder), AT_LINE.match(refusal.line)
+    if form:
+        text = read_file("", asked.externals) if form[1] == "externals" else read_file(asked.folder, "tables.map")
+        yield "  " + escaped(text.split(b"\n")[int(form[2]) - 1][:MOST_OF_LINE])
+    for name in names_in(folder) if not form else []:
+        place = os.path.join(folder, name)
+        if os.path.islink(place):
             yield f"  {escaped(name)} is a link, which is passed over"
+        elif refusal.word == "NoDsdt" and any(is_dsdt(os.path.join(place, it)) for it in names_in(place)):
+            yield f"  {escaped(name)} is a folder, which is passed over: did you mean {escaped(place)}?"
         elif "\ufffd" in name.decode(errors="replace"):
             yield f"  {escaped(name)} isn't UTF-8"
 
@@ -277,16 +298,16 @@ def say_all(asked, program, refusal):
     elif refusal.file is not None:
         yield from say_file(refusal, data)
     else:
-        yield from itertools.islice(say_folder(asked), MOST_SHOWN)
+        yield from itertools.islice(say_folder(asked, refusal), MOST_SHOWN)
     ways = ways_of_dsdt if data.startswith(b"DSDT") else ways
     without = [WAYS["no-count"]] * (not asked.externals) + [WAYS["any-run"]] * (not asked.has_any_run)
     ways = [way for way in ways if way not in without]
     if what:
         yield what
-    if refusal.line.startswith(("tables.map line", "externals line")):
+    if AT_LINE.match(refusal.line):
         way = "mend the line"
     else:
-        way = "look at `ls -la` of it" if refusal.line.startswith("cannot read") else "see docs/refusals.md"
+        way = "look at `ls -la` of it" if refusal.line.startswith("cannot read") else "see refusals.md"
     yield "Way on: " + ("; or ".join(ways) or way)
 
 

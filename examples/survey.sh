@@ -1,5 +1,5 @@
 #!/usr/bin/env bash
-# Runs acpidis over many sets of tables, and writes one line a set. docs/many.md says how to use it.
+# Runs acpidis over many sets of tables, and writes one line a set. The page many.md says how to use it.
 #
 #   survey.sh [-j JOBS] [-s SECONDS] [-m MEGABYTES] SETS RESULTS [OPTION..]
 #   survey.sh --left SETS RESULTS

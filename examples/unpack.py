@@ -18,6 +18,7 @@ import re
 from collections import Counter, namedtuple
 
 from acpidis_tools import command
+from acpidis_tools.listing import MARKS
 from acpidis_tools.running import Refused
 
 TITLE = re.compile(r"[> \t]*(RSD PTR|[A-Z0-9!_]{4}) @ 0x([0-9A-Fa-f]{1,16})\s*")
@@ -30,8 +31,7 @@ HEADER, ROOT, ROOT_LENGTH, WIDTH = 36, b"RSD PTR ", 20, 16
 # A header as tables in images have them: a signature, a length, a revision, and names of printable bytes.
 HEAD = re.compile(rb"(?=([A-Z][A-Z0-9]{3}|[A-Z0-9]{3}!).{4}[\0-\x20].[ -~\0]{6}[ -~\0]{8}.{4}[ -~\0]{4})", re.DOTALL)
 SIGNATURE = re.compile(rb"[A-Z0-9_!]{4}")
-# What editors and shells put in front of a text in UTF-8, and in UTF-16
-MARK, WIDE_MARKS = b"\xef\xbb\xbf", (b"\xff\xfe", b"\xfe\xff")
+MARK, *WIDE_MARKS = MARKS
 # A table of the file: its bytes, its signature, and its address, 0 where none is known
 Table = namedtuple("Table", "data signature address")
 
@@ -114,7 +114,7 @@ def found_in(image):
 
 
 def tables_of(data):
-    text = data.decode("utf-16", "replace") if data.startswith(WIDE_MARKS) else data.removeprefix(MARK).decode("latin-1")
+    text = data.decode("utf-16", "replace") if data.startswith(tuple(WIDE_MARKS)) else data.removeprefix(MARK).decode("latin-1")
     is_text = any(map(TITLE.fullmatch, map(str.rstrip, text.split("\n"))))
     tables = dumped(text) if is_text else behind_each_other(data) or found_in(data)
     if not tables and HEAD.match(data) and length_of(data) > len(data):

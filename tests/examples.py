@@ -11,6 +11,7 @@ import os
 import re
 import resource
 import shlex
+import sys
 
 from tally import TOP, Tally, asked, ended, executable, parts_in, timed, written
 from made_aml import SETS, device, method, table, tables
@@ -44,6 +45,7 @@ class Tries(Tally):
             written(self.room / name, tables(*codes))
         written(self.room / "noted", {**tables(*SETS["twice"]), "notes.txt": b"no table"})
         written(self.room / "packed", {"dsdt.dat": b"\x1f\x8b\x08\0" + b"a.packed.table" * 9})
+        written(self.room / "above/twice", tables(*SETS["twice"]))
         (self.room / "linked").mkdir()
         (self.room / "linked/dsdt.dat").symlink_to("../twice/dsdt.dat")
         written(self.room / "misnamed", {"DSD\udce9": b""})
@@ -98,6 +100,14 @@ class Tries(Tally):
                 found = self.run(script, option, "rounds", ACPIDIS=fake)
                 self.is_so(f"{script}: {option}", found.status == 2 and not found.out)
             self.is_so(f"{script}: no run with them", said.read_text() == passed)
+
+    def check_old_python(self):
+        """Each script says which Python it needs to one that is older."""
+        code = "import runpy, sys; sys.version_info = 3, 8; del sys.argv[0]; runpy.run_path(sys.argv[0])"
+        for script in sorted((TOP / "examples").glob("*.py")):
+            run = ended(sys.executable, "-c", code, script, cwd=script.parent)
+            said = f"acpidis-{script.stem} needs Python 3.9, this is 3.8"
+            self.row(f"{script.name}, an old Python", run, 1, "", [said])
 
     def check_damage(self):
         """No table is so damaged that there is no answer."""

@@ -157,7 +157,8 @@ class Checks(Tally):
         ran = self.run("facts.py", "odd", "odd.facts")
         shown = (ran.status, r"the last, a\x1B[2J\x0Ab: refused: \x1B[2J\x0D" in ran.err, ran.err.count("\n"), "\x1b" in ran.err)
         self.is_same("control characters", shown, (3, True, 1, False))
-        written(self.room / "flat", dict.fromkeys(("one", "two"), (self.room / "texts/rack/a/text").read_bytes()))
+        files = dict.fromkeys(("one", "two"), (self.room / "texts/rack/a/text").read_bytes())
+        written(self.room / "flat", {**files, ".hidden": b"\0"})
         self.run("facts.py", "flat", "flat.facts")
         names = {(line["id"], line["path"]) for line in lines if line["fact"] == "name"}
         self.is_same("their names", names, set(self.rows("facts", "SELECT id, path FROM name")))

@@ -156,7 +156,7 @@ class Checks(Tally):
             with open(room / "printed", "wb") as printed:
                 how = {"stdout": printed, "cwd": room, "env": {**os.environ, "PYTHONUNBUFFERED": "1"}}
                 self.refuses(row, row.split(), said, 2, timeout=20, preexec_fn=bound, **how)
-        for place in ("/dev/stdin", "/proc/self/fd/0"):
+        for place in ("/dev/stdin", "/proc/self/fd/0", "-"):
             words, said = ["show.py", place, "AAAA"], f"{place!r} declares no such path"
             self.refuses(f"a pipe as {place}", words, said, input=text)
         self.is_same("what is left of the parts", sorted(os.listdir(room)), ["dump", "fifo", "new", "printed", "text"])

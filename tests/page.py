@@ -334,6 +334,12 @@ class Checks(Tally):
             run = self.run("page.py", self.text("refused", text))
             got = run.status, run.out, run.err.count("\n"), run.err.startswith("acpidis-page: ")
             self.is_same(f"{what}, {run.err}", got, (1, "", 1, True))
+        for text, said in (
+            (f"{self.hostile.out}acpidis: 1\n", f"line {len(lines) + 1} is one of standard error, which is mixed in"),
+            (f"\ufeff{self.hostile.out}", "line 1 begins with the mark of UTF-8 or UTF-16, and a listing is ASCII without one"),
+        ):
+            self.text("mixed", text)
+            self.refuses(said, ["page.py", "mixed"], f"'mixed' is no listing for a page: {said}")
         errors = self.text("errors", "acpidis: body \\NONE: UnknownName at 1\n")
         for status, words in ((1, ["--errors", errors, self.text("whole", "".join(lines))]), (2, [self.room / "none"])):
             run = self.run("page.py", *words)

@@ -38,6 +38,8 @@ TERMS.update(re.findall(r"^[0-9A-F]+ (\w+)", OPCODES, re.MULTILINE))
 BLOCK = re.compile(rf"DefinitionBlock \(({TEXT})\) {{")
 # So many lines share their pieces with those that are alike.
 MOST_KEPT = 10_000
+# What editors and shells put in front of a text in UTF-8, and in UTF-16
+MARKS = (b"\xef\xbb\xbf", b"\xff\xfe", b"\xfe\xff")
 OF_SHELL = ("/dev/stdin", "/dev/fd/", "/dev/null", "/proc/")
 DEFINITION_BLOCKS = ('"DSDT"', '"SSDT"')
 
@@ -166,7 +168,8 @@ class Reader:
             raise NoListing("it is empty")
         if not text.isascii():
             number = next(number for number, line in enumerate(text.split(b"\n"), 1) if not line.isascii())
-            raise NoListing(f"line {number} has a byte that isn't ASCII")
+            marked = "begins with the mark of UTF-8 or UTF-16, and a listing is ASCII without one"
+            raise NoListing(f"line {number} {marked if text.startswith(MARKS) else 'has a byte that is not ASCII'}")
         *self.lines, rest = text.decode().replace("\r\n", "\n").split("\n")
         self.at = 0
         if not DUMP.fullmatch(self.lines[0] if self.lines else rest):
@@ -180,7 +183,9 @@ class Reader:
     def refuse(self) -> NoListing:
         if self.at >= len(self.lines):
             return NoListing(f"it is cut behind line {len(self.lines)}")
-        return NoListing(f"line {self.at + 1} isn't one of a listing of acpidis")
+        is_error = self.peek().startswith("acpidis: ")
+        said = "is one of standard error, which is mixed in" if is_error else "isn't one of a listing of acpidis"
+        return NoListing(f"line {self.at + 1} {said}")
 
     def dumps(self) -> list[Dump]:
         dumps: list[Dump] = []
@@ -245,7 +250,9 @@ def check_file(file: str) -> None:
 
 
 def read_file(file: str, most: int | None = None, why: str = "") -> bytes:
-    """What a file has. One of more than so many bytes is no listing, which is said with more words of `why`."""
+    """What a file has, or standard input for `-`. One of more than so many bytes is no listing, which is said with more
+    words of `why`."""
+    file = "/dev/stdin" if file == "-" else file
     check_file(file)
     with open(file, "rb") as it:
         text = it.read(None if most is None else most + 1)
