@@ -9,6 +9,7 @@ acpidis, but not --check. ACPIDIS names another program. Status 0 is a set that 
 acpidis writes more than 64 MB, 2 a command line, a program or an output that is at fault.
 """
 
+import contextlib
 import itertools
 import os
 import pathlib
@@ -21,7 +22,7 @@ from acpidis_tools import aml, command, running
 from acpidis_tools.listing import file_name
 from acpidis_tools.standard import counted, escaped
 
-HEADER, MOST_BYTES, SHOWN_BYTES, MOST_SHOWN = aml.HEADER, 16_777_216, 16, 5
+HEADER, MOST_BYTES, SHOWN_BYTES, MOST_SHOWN, MOST_OF_LINE = aml.HEADER, 16_777_216, 16, 5, 200
 BLOCKS = (b"DSDT", b"SSDT")
 CHAIN = (b"RSD PTR ", b"XSDT", b"RSDT", b"FACP")
 LINE = re.compile(r'acpidis: (?:table "(?P<file>[^"]*)": )?(?P<word>\w+)(?: at (?P<at>\d+)| (?P<path>\\\S*))?|.*')
@@ -29,7 +30,6 @@ GIVEN = re.compile(r"(\\[A-Z0-9_.]+) ([0-7])")
 METHOD = re.compile(rb"\x14(?:[\x00-\x3f]|[\x40-\x4f].|[\x80-\x8f]..|[\xc0-\xcf]...)([A-Z_][A-Z0-9_]{3})(.)", re.DOTALL)
 
 AT_LINE = re.compile(r"(tables\.map|externals) line (\d+)")
-MOST_OF_LINE = 200
 DUMPED = re.compile(rb"\s*(?:RSD PTR|[A-Z0-9!_]{4}) @ 0x[0-9A-Fa-f]+\s")
 
 
@@ -245,16 +245,10 @@ def say_file(refusal, data):
         yield f"  at byte {refusal.at} stands {bytes_at(data, refusal.at)}"
 
 
-def names_in(folder):
-    is_open = os.path.isdir(folder) and os.access(folder, os.R_OK | os.X_OK)
-    return sorted(os.listdir(folder)) if is_open else []
-
-
-def is_dsdt(file):
-    if os.path.islink(file) or not os.path.isfile(file) or not os.access(file, os.R_OK):
-        return False
-    with open(file, "rb") as it:
-        return it.read(4) == b"DSDT"
+def has_dsdt(folder):
+    with contextlib.suppress(OSError):
+        files = (entry for entry in os.scandir(folder) if entry.is_file(follow_symlinks=False))
+        return any(read_file(folder, file.name).startswith(b"DSDT") for file in files)
 
 
 def say_folder(asked, refusal):
@@ -264,11 +258,13 @@ def say_folder(asked, refusal):
     if form:
         text = read_file("", asked.externals) if form[1] == "externals" else read_file(asked.folder, "tables.map")
         yield "  " + escaped(text.split(b"\n")[int(form[2]) - 1][:MOST_OF_LINE])
-    for name in names_in(folder) if not form else []:
+        return
+    names = sorted(os.listdir(folder)) if os.access(folder, os.R_OK | os.X_OK) and os.path.isdir(folder) else []
+    for name in names:
         place = os.path.join(folder, name)
         if os.path.islink(place):
             yield f"  {escaped(name)} is a link, which is passed over"
-        elif refusal.word == "NoDsdt" and any(is_dsdt(os.path.join(place, it)) for it in names_in(place)):
+        elif refusal.word == "NoDsdt" and has_dsdt(os.fsdecode(place)):
             yield f"  {escaped(name)} is a folder, which is passed over: did you mean {escaped(place)}?"
         elif "\ufffd" in name.decode(errors="replace"):
             yield f"  {escaped(name)} isn't UTF-8"

@@ -103,11 +103,10 @@ class Tries(Tally):
 
     def check_old_python(self):
         """Each script says which Python it needs to one that is older."""
-        code = "import runpy, sys; sys.version_info = 3, 8; del sys.argv[0]; runpy.run_path(sys.argv[0])"
+        old = "import runpy, sys; sys.version_info = 3, 8; del sys.argv[0]; runpy.run_path(sys.argv[0])"
         for script in sorted((TOP / "examples").glob("*.py")):
-            run = ended(sys.executable, "-c", code, script, cwd=script.parent)
-            said = f"acpidis-{script.stem} needs Python 3.9, this is 3.8"
-            self.row(f"{script.name}, an old Python", run, 1, "", [said])
+            run = ended(sys.executable, "-c", old, script, cwd=script.parent)
+            self.row(script.name, run, 1, "", [f"acpidis-{script.stem} needs Python 3.9, this is 3.8"])
 
     def check_damage(self):
         """No table is so damaged that there is no answer."""

@@ -73,8 +73,7 @@ class Read:
 
 
 # The questions of docs/facts.md, from 1 on
-ASKED = re.findall(r'ask.py facts "(.*?)"$', (TOP / "docs/facts.md").read_text().replace("\n> ", "\n"), re.DOTALL | re.M)
-QUESTIONS = dict(enumerate(ASKED, 1))
+QUESTIONS = re.findall(r'ask.py facts "(.*?)"$', (TOP / "docs/facts.md").read_text().replace("\n> ", "\n"), re.DOTALL | re.M)
 # Facts of a folder, whose processes are ended at a text of these words, as by a system without memory, or get none.
 ENDS = """
 import os, sys
@@ -209,7 +208,8 @@ class Checks(Tally):
             (name, _, file), lines = head.rpartition(": "), rows.split("\n")
             wanted = [ast.literal_eval(line) for line in lines if line.startswith("(")]
             sql = " ".join(line for line in lines if not line.startswith("("))
-            found = self.rows(file, QUESTIONS[int(sql)].replace("EmbeddedControl", "SystemIO") if sql.isdigit() else sql)
+            sql = QUESTIONS[int(sql) - 1].replace("EmbeddedControl", "SystemIO") if sql.isdigit() else sql
+            found = self.rows(file, sql)
             self.is_same(name, found, wanted)
 
     def check_words(self) -> None:

@@ -243,34 +243,28 @@ class Checks(Tally):
         self.is_same("what differs", found, [("added", "\\NEW_"), ("lacking", "\\CALL"), ("changed", "\\BAR_")])
         self.is_same("elements of a comparison", read_page(html).elements - ELEMENTS, set())
         same = self.page(one, "--compare", self.text("other", one.out))
-        self.is_same("what differs from itself", re.findall("<li class=|<p>No difference", same), ["<p>No difference"])
-
-    def check_comparison_outside(self) -> None:
-        """Files of one name, whose code outside methods differs, and lines of a table that one has."""
-        code = lambda value: b"\xA0\x0A\x93" + bytes([value]) + b"\x01\x08FOO_\x01"
-        for name, found in {"old": code(0), "new": code(1) + b"\x08NEW_\x01"}.items():
-            folder = written(self.room / name, {"dsdt.dat": table(b"DSDT", found)})
-            outcome = run_folder(folder, Options(any_run=True))
-            self.text(f"{name}/mine.text", outcome.out)
-        html = self.says("two of a name", ["page.py", "--compare", "new/mine.text", "old/mine.text"], 0)
-        found = re.findall(r"<summary>((?:1 path|The texts).*?)</s|<(ins|del)>(.*?)(?: Rev.*)?</", html)
-        self.is_told("files of one name", found)
+        self.is_same("what differs from itself", re.findall("<li class=|No line differs", same), ["No line differs"])
 
     def check_comparison_lines(self) -> None:
-        """The lines that differ, in a method whose middle is another, and in a table."""
+        """The lines that differ, in a method whose middle is another, in a table and outside both; one name of both."""
         code = method(b"MAIN", 0, b"\x70\x01\x60" + b"\x70\x0A\x05\x61" + b"\x70\x60\x62" + b"\xA4\x62")
-        changed = code.replace(b"\x70\x0A\x05\x61", b"\x70\x0A\x06\x61")
+        code += b"\x15EXT_\x01\x00"
+        changed = code.replace(b"\x70\x0A\x05\x61", b"\x70\x0A\x06\x61").replace(b"_\x01\0", b"_\x02\0") + b"\x08NEW_\0"
         one = self.listed("first", {"dsdt.dat": table(b"DSDT", code), "ssdt.dat": table(b"OEM5", b"")})
         other = self.listed("second", {"dsdt.dat": table(b"DSDT", changed), "ssdt.dat": table(b"OEM6", b"")})
-        html = self.page(one, "--compare", self.text("other", other.out))
+        html = self.page(one, "--name", "other", "--compare", self.text("other", other.out))
         lines = one.out.splitlines()
         numbers = re.findall(r"<(?:p|tr|summary) id=(\d+) class=differs>", html)
         marked = [lines[int(number) - 1].strip() for number in numbers]
-        self.is_same("the lines that differ", marked, [lines[1], "Store (0x05, Local1)"])
+        wanted = [*lines[:2], "Store (0x05, Local1)", "External (EXT_, 0x01, 0x00)"]
+        self.is_same("the lines that differ", marked, wanted)
         shown = re.findall("<(ins|del)>(?:  |.*?quot; &quot;)(.*?)(?:&quot; Len.*)?</", html)
-        wanted = [("del", "OEM5"), ("ins", "OEM6"), ("del", "Store (0x05, Local1)"), ("ins", "Store (0x06, Local1)")]
+        wanted = [("del", "DSDT"), ("ins", "DSDT"), ("del", "OEM5"), ("ins", "OEM6")]
+        wanted += [("del", "Store (0x05, Local1)"), ("ins", "Store (0x06, Local1)")]
         self.is_same("both lines", shown, wanted)
-        self.is_same("whose they are", "1 path that other has otherwise than" in html, True)
+        whose = re.findall(r"<summary>((?:1 path|The texts) .*?)</", html)
+        wanted = ["1 path that the other other alone has", "1 path that the other other has otherwise than other"]
+        self.is_same("whose they are", whose, [*wanted, "The texts differ in 2 more lines outside declarations"])
 
     def check_differences(self) -> None:
         """Each text stands in the differences of two, whatever both are; and large ones take no long time."""
@@ -334,10 +328,9 @@ class Checks(Tally):
             run = self.run("page.py", self.text("refused", text))
             got = run.status, run.out, run.err.count("\n"), run.err.startswith("acpidis-page: ")
             self.is_same(f"{what}, {run.err}", got, (1, "", 1, True))
-        for text, said in (
-            (f"{self.hostile.out}acpidis: 1\n", f"line {len(lines) + 1} is one of standard error, which is mixed in"),
-            (f"\ufeff{self.hostile.out}", "line 1 begins with the mark of UTF-8 or UTF-16, and a listing is ASCII without one"),
-        ):
+        errors, mark = "is one of standard error", "begins with the mark of UTF-8 or UTF-16"
+        texts = {f"{self.hostile.out}acpidis: 1\n": f"line {len(lines) + 1} {errors}", "\ufeff": f"line 1 {mark}"}
+        for text, said in texts.items():
             self.text("mixed", text)
             self.refuses(said, ["page.py", "mixed"], f"'mixed' is no listing for a page: {said}")
         errors = self.text("errors", "acpidis: body \\NONE: UnknownName at 1\n")

@@ -21,11 +21,10 @@ Text = tuple[str, ...]
 Marked = list[tuple[str, str]]
 
 
-class Comparison(namedtuple("Comparison", "other adds lacks changes here lines tables outside is_same")):
+class Comparison(namedtuple("Comparison", "other adds lacks changes here lines tables outside")):
     """What another listing says: the texts of the paths that it adds and of those that it changes, and the paths that
     it lacks, with the texts here of those that it changes; the numbers of the lines here that differ; of the tables, by
-    their files, the lines that differ, None where it has no such file; those that do outside declarations; and whether
-    the lines of both are the same."""
+    their files, the lines that differ, None where it has no such file; and those that do outside declarations."""
 
     def mark(self, path: Path) -> str:
         """How a path differs, in a word, and nothing where it doesn't."""
@@ -39,11 +38,10 @@ def compare(one: Decoder, other: Decoder, name: str) -> Comparison:
     lines = {number for path in changed for number in different_lines(here[path], text_of(there[path]))}
     tables, table_lines = compare_tables(one.listing.dumps, other.listing.dumps)
     outside, outside_lines = alone(lines_outside(one, here), lines_outside(other, there))
-    is_same = not tables and [it.text for it in one.listing.lines] == [it.text for it in other.listing.lines]
     lines |= table_lines | outside_lines
     adds = {path: text_of(there[path]) for path in sorted(there.keys() - here.keys())}
     ours, theirs = ({path: text_of(texts[path]) for path in changed} for texts in (here, there))
-    return Comparison(name, adds, here.keys() - there.keys(), theirs, ours, lines, tables, outside, is_same)
+    return Comparison(name, adds, here.keys() - there.keys(), theirs, ours, lines, tables, outside)
 
 
 def text_of(said: Said) -> Text:

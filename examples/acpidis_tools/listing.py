@@ -168,8 +168,9 @@ class Reader:
             raise NoListing("it is empty")
         if not text.isascii():
             number = next(number for number, line in enumerate(text.split(b"\n"), 1) if not line.isascii())
-            marked = "begins with the mark of UTF-8 or UTF-16, and a listing is ASCII without one"
-            raise NoListing(f"line {number} {marked if text.startswith(MARKS) else 'has a byte that is not ASCII'}")
+            is_marked = text.startswith(MARKS)
+            said = "begins with the mark of UTF-8 or UTF-16" if is_marked else "has a byte that isn't ASCII"
+            raise NoListing(f"line {number} {said}")
         *self.lines, rest = text.decode().replace("\r\n", "\n").split("\n")
         self.at = 0
         if not DUMP.fullmatch(self.lines[0] if self.lines else rest):
@@ -184,7 +185,7 @@ class Reader:
         if self.at >= len(self.lines):
             return NoListing(f"it is cut behind line {len(self.lines)}")
         is_error = self.peek().startswith("acpidis: ")
-        said = "is one of standard error, which is mixed in" if is_error else "isn't one of a listing of acpidis"
+        said = "is one of standard error" if is_error else "isn't one of a listing of acpidis"
         return NoListing(f"line {self.at + 1} {said}")
 
     def dumps(self) -> list[Dump]:

@@ -10,7 +10,7 @@ import re
 from html import escape
 from string import Template
 
-from acpidis_tools.comparison import Comparison, Marked, differences
+from acpidis_tools.comparison import Marked, differences
 from acpidis_tools.errors import raw_lines
 from acpidis_tools.listing import HEADER, TEXT, Dump, Listing, path_text
 from acpidis_tools.names import PREDEFINED
@@ -135,17 +135,12 @@ def comparison_html(sheet: Sheet) -> list[str]:
     kinds = [f"{theirs} alone has", f"{ours} alone has", f"{theirs} has otherwise than {ours}"]
     for word, items in zip(kinds, (adds, lacks, changes)):
         written += [*folded_list(f"{counted(len(items), 'path')} that {word}", items, len(items) <= MOST_OPEN), "\n"]
-    return [*written, *outside_html(found), "</section>\n"]
-
-
-def outside_html(found: Comparison) -> list[str]:
-    """What else differs, where anything does."""
     if found.outside:
         head = f"The texts differ in {counted(len(found.outside), 'more line')} outside declarations"
-        return folded_list(head, [f"<li class=changed>{marked_html(found.outside[:MOST_OPEN])}</li>\n"], True)
-    if found.adds or found.lacks or found.changes or found.tables:
-        return []
-    return [f"<p>{'No difference' if found.is_same else 'The same lines in another order'}</p>\n"]
+        written += folded_list(head, [f"<li class=changed>{marked_html(found.outside[:MOST_OPEN])}</li>\n"], True)
+    elif not (adds or lacks or changes or found.tables):
+        written += ["<p>No line differs</p>\n"]
+    return [*written, "</section>\n"]
 
 
 def title_of(listing: Listing) -> str:
