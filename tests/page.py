@@ -328,7 +328,7 @@ class Checks(Tally):
             run = self.run("page.py", self.text("refused", text))
             got = run.status, run.out, run.err.count("\n"), run.err.startswith("acpidis-page: ")
             self.is_same(f"{what}, {run.err}", got, (1, "", 1, True))
-        errors, mark = "is one of standard error", "begins with the mark of UTF-8 or UTF-16"
+        errors, mark = "is one of standard error", "begins with a mark of UTF-8 or UTF-16"
         texts = {f"{self.hostile.out}acpidis: 1\n": f"line {len(lines) + 1} {errors}", "\ufeff": f"line 1 {mark}"}
         for text, said in texts.items():
             self.text("mixed", text)

@@ -93,8 +93,7 @@ def alone(here: Said, there: Said) -> tuple[Marked, set[int]]:
 def lines_outside(decoder: Decoder, texts: dict[Path, Said]) -> Said:
     """The lines that no declaration's text has, as those of code outside methods, but for the ends of blocks."""
     inside = {number for said in texts.values() for number, _ in said}
-    lines = (line for line in decoder.listing.lines if line.number not in inside and line.term)
-    return [(line.number, line.bare) for line in lines]
+    return [(line.number, line.bare) for line in decoder.listing.lines if line.term and line.number not in inside]
 
 
 def texts_of(decoder: Decoder) -> dict[Path, Said]:

@@ -168,8 +168,7 @@ class Reader:
             raise NoListing("it is empty")
         if not text.isascii():
             number = next(number for number, line in enumerate(text.split(b"\n"), 1) if not line.isascii())
-            is_marked = text.startswith(MARKS)
-            said = "begins with the mark of UTF-8 or UTF-16" if is_marked else "has a byte that isn't ASCII"
+            said = "begins with a mark of UTF-8 or UTF-16" if text.startswith(MARKS) else "has a byte that isn't ASCII"
             raise NoListing(f"line {number} {said}")
         *self.lines, rest = text.decode().replace("\r\n", "\n").split("\n")
         self.at = 0
@@ -184,8 +183,7 @@ class Reader:
     def refuse(self) -> NoListing:
         if self.at >= len(self.lines):
             return NoListing(f"it is cut behind line {len(self.lines)}")
-        is_error = self.peek().startswith("acpidis: ")
-        said = "is one of standard error" if is_error else "isn't one of a listing of acpidis"
+        said = "is one of standard error" if self.peek().startswith("acpidis: ") else "isn't one of a listing of acpidis"
         return NoListing(f"line {self.at + 1} {said}")
 
     def dumps(self) -> list[Dump]:
