@@ -183,7 +183,7 @@ class Reader:
     def refuse(self) -> NoListing:
         if self.at >= len(self.lines):
             return NoListing(f"it is cut behind line {len(self.lines)}")
-        said = "is one of standard error" if self.peek().startswith("acpidis: ") else "isn't one of a listing of acpidis"
+        said = "is one of standard error" if self.peek().startswith("acpidis:") else "isn't one of a listing of acpidis"
         return NoListing(f"line {self.at + 1} {said}")
 
     def dumps(self) -> list[Dump]:
