@@ -10,9 +10,9 @@
 # went wrong is said with the host in front, and then the status is 1. Start it again to ask those hosts again that have no
 # folder yet.
 
-# is_host HOST: whether it is a word that may be a folder's name, and no option of ssh
+# is_host HOST: whether it is a word that may be a folder's name beside the log, and no option of ssh
 is_host() {
-    case $1 in -* | .* | */* | *[!A-Za-z0-9._@:-]*) return 1 ;; esac
+    case $1 in -* | .* | log | */* | *[!A-Za-z0-9._@:-]*) return 1 ;; esac
 }
 
 # one HOST: its tables
@@ -23,13 +23,19 @@ one() {
         exit 1
     fi
     part=$(mktemp -d -- "$SETS/.part.XXXXXX") || exit 1
-    trap 'chmod -R u+rwX -- "$part"; rm -rf -- "$part"' EXIT
+    asked=
+    trap 'if [ "$asked" ]; then kill "$asked"; fi; chmod -R u+rwX -- "$part"; rm -rf -- "$part"' EXIT
+    trap 'exit 130' INT
+    trap 'exit 143' TERM HUP
     start=$(date +%s)
-    # What a host sends may be anything: no file gets larger, and no answer longer.
+    # What a host sends may be anything: no file gets larger, and no answer longer. This shell goes on where one would.
+    trap : XFSZ
     ulimit -f $((${COLLECT_MEGABYTES:-64} * 2048)) || exit 1
-    timeout "${COLLECT_SECONDS:-60}" ssh -n -o BatchMode=yes -o ConnectTimeout=10 -- "$1" \
-        sudo -n tar -C /sys/firmware/acpi/tables -cf - . 2>"$part/said" >"$part/tar"
-    status=$?
+    timeout -k 5 "${COLLECT_SECONDS:-60}" ssh -n -o BatchMode=yes -o ConnectTimeout=10 -- "$1" \
+        sudo -n tar -C /sys/firmware/acpi/tables -cf - . 2>"$part/said" >"$part/tar" &
+    asked=$!
+    wait "$asked" 2>/dev/null # this shell would say that a signal ended it
+    status=$? asked=
     if [ "$status" = 0 ]; then
         { unpack "$part" && mv -T -- "$part/set" "$SETS/$1"; } 2>"$part/told" || status=1
         head -n 1 -- "$part/told" >"$part/said" # the first line has the reason
@@ -37,7 +43,7 @@ one() {
     printf '%s\t%s\t%s\n' "$1" "$status" $(($(date +%s) - start)) >>"$SETS/log"
     case $status in
     0) return ;;
-    124) said="no answer in ${COLLECT_SECONDS:-60} seconds" ;;
+    124 | 137) said="no answer in ${COLLECT_SECONDS:-60} seconds" ;;
     153) said="more than ${COLLECT_MEGABYTES:-64} MB" ;;
     *) said=$(tail -c 500 -- "$part/said" | tail -n 1 | LC_ALL=C tr -dc ' -~') ;;
     esac
@@ -64,6 +70,9 @@ fail() {
     exit 2
 }
 
+case ${COLLECT_MEGABYTES:-64} in
+0* | *[!0-9]* | ???????*) fail "acpidis-collect: COLLECT_MEGABYTES is no number of megabytes: $COLLECT_MEGABYTES" ;;
+esac
 case ${1-} in
 --one)
     one "$2"
@@ -82,6 +91,8 @@ case $1 in
 esac
 mkdir -p -- "$2" || exit 1
 export SETS="$2"
+# What is left of an hour ago was broken off.
+(CDPATH='' cd -- "$SETS" && find . -maxdepth 1 -name '.part.*' -mmin +60 -exec chmod -R u+rwX {} + -exec rm -rf {} +)
 end=$(printf '\r') # of a line on Windows
 while read -r host || [ -n "$host" ]; do
     host=${host%"$end"}

@@ -57,9 +57,10 @@ open_results() {
     fi
 }
 
-# The folders below SETS that hold a file, are empty, or can't be read; files in SETS itself are none of a set.
+# The folders below SETS that hold a file, are empty, or can't be read; files in SETS itself are none of a set, nor are the
+# parts of a collection.
 folders_of() {
-    (cd -- "$1" && find . -mindepth 1 \( -type d ! -readable -print0 -prune \) -o \( -type d -empty -print0 \) \
+    (cd -- "$1" && find . -mindepth 1 -name '.part.*' -prune -o \( -type d ! -readable -print0 -prune \) -o \( -type d -empty -print0 \) \
         -o \( ! -type d -path './*/*' -printf '%h\0' \)) | sort -zu
 }
 
@@ -228,9 +229,13 @@ while getopts :j:s:m: option; do
     esac
 done
 shift $((OPTIND - 1))
-case $jobs in '' | 0* | *[!0-9]*) fail "-j takes a number of jobs, not $jobs" ;; esac
-case ${SURVEY_SECONDS-600} in '' | 0 | . | *[!0-9.]* | *.*.*) fail "-s takes a number of seconds, not $SURVEY_SECONDS" ;; esac
-case ${SURVEY_MEGABYTES-} in 0* | *[!0-9]*) fail "-m takes a number of megabytes, not $SURVEY_MEGABYTES" ;; esac
+# number OPTION WHAT VALUE FORM: refuses what is no number of this form, or nothing, or too large for a shell
+number() {
+    [[ $3 =~ ^$4$ && $3 == *[1-9]* ]] || fail "$1 takes a number of $2, not $3"
+}
+number -j jobs "$jobs" '[1-9][0-9]{0,8}'
+number -s seconds "${SURVEY_SECONDS-600}" '[0-9]{0,9}(\.[0-9]{0,9})?'
+number -m megabytes "${SURVEY_MEGABYTES:-1}" '[1-9][0-9]{0,8}'
 [ $# -ge 2 ] || fail "usage: ${0##*/} [-j JOBS] [-s SECONDS] [-m MEGABYTES] SETS RESULTS [OPTION..]"
 case " ${*:3} " in *' --help '* | *' -h '* | *' --version '* | *' -V '*) fail '--help and --version check no set' ;; esac
 survey "$@"

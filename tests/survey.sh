@@ -79,7 +79,10 @@ an option of the program|acpidis-survey: there is no option -- here: those of ac
 an empty folder|acpidis-survey: no folder with tables is below nothing|nothing none
 a set itself|acpidis-survey: no folder with tables is below sets/text|sets/text none
 no number of seconds|acpidis-survey: -s takes a number of seconds, not x|-s x sets none
+no time|acpidis-survey: -s takes a number of seconds, not 0.0|-s 0.0 sets none
+no time at all|acpidis-survey: -s takes a number of seconds, not 00|-s 00 sets none
 no number of megabytes|acpidis-survey: -m takes a number of megabytes, not 0|-m 0 sets none
+too many megabytes|acpidis-survey: -m takes a number of megabytes, not 99999999999999999999|-m 99999999999999999999 sets none
 counts from a pipe|acpidis-survey: pipe is a pipe, which may never end|sets none --externals pipe
 T
 
@@ -186,6 +189,8 @@ good*) exec tar -C '$demo' -cf - . ;;
 half) tar -C '$demo' -cf - . | head -c 1040 ;;
 late) sleep 9 ;;
 large) head -c 3000000 /dev/zero ;;
+flood) head -c 9000000 /dev/zero >&2 ;;
+deaf) trap '' TERM; sleep 9; sleep 9 ;;
 loud) head -c 100000 /dev/zero | tr '\\0' x >&2; printf '\\nno \\033[31mway\\007\\n' >&2; exit 1 ;;
 greets) echo Welcome; exec tar -C '$demo' -cf - . ;;
 packed) exec tar -C '$work/sent/packed' -czf - . ;;
@@ -240,5 +245,31 @@ is 'regular files alone' "$(cd collected/odd1 && find . -printf '%p %m|' | tr '|
     '. 755 ./dsdt.dat 644 ./shut 755 ./shut/dsdt.dat 644 '
 # shellcheck disable=SC2012 # the names are known
 is 'no part of these is left' "$(ls -A collected | tr '\n' ' ')" 'good1 good2 log odd1 '
+
+# a host that floods standard error, one that ends by no signal but one, and a name that the log has
+printf '%s\n' flood deaf log >hosts
+PATH=$work/commands:$PATH COLLECT_SECONDS=1 COLLECT_MEGABYTES=1 "$collect" hosts flooded 2>errors
+is 'floods' "$(LC_ALL=C sort errors)" $'deaf: no answer in 1 seconds\nflood: more than 1 MB\nlog: no name of a host'
+is 'their log' "$(cut -f 1-2 flooded/log | LC_ALL=C sort | tr '\t\n' ' |')" 'deaf 137|flood 153|'
+is 'a bound that is none' "$(COLLECT_MEGABYTES=1x "$collect" hosts flooded 2>&1; echo "$?")" \
+    $'acpidis-collect: COLLECT_MEGABYTES is no number of megabytes: 1x\n2'
+
+# broken off: no part is left, nor ssh; what is left of older ones goes, and the survey passes over them
+printf '%s\n' late >hosts
+mkdir -p broken/.part.old/shut broken/.part.new
+touch -d '2 hours ago' broken/.part.old
+chmod 0 broken/.part.old/shut
+for signal in INT TERM; do
+    : >asked
+    PATH=$work/commands:$PATH env --default-signal=INT setsid -w "$collect" hosts broken 2>/dev/null &
+    while [ ! -s asked ]; do sleep 0.05; done
+    pid=$(pgrep -f "^/bin/sh $collect hosts broken") && kill -s "$signal" -- "-$pid"
+    wait "$!" 2>/dev/null
+    while pgrep -f -- "$collect --one late" >/dev/null; do sleep 0.05; done
+    is "parts after $signal" "$(cd broken && find . -mindepth 1 -maxdepth 1)" ./.part.new
+    is "ssh after $signal" "$(pgrep -f "^/bin/sh $work/commands/ssh")" ''
+done
+cp "$demo/dsdt.dat" broken/.part.new
+is 'no set' "$("$survey" --left broken /dev/null | tr '\0' '|')" ''
 
 end
