@@ -22,7 +22,7 @@ import os
 import re
 import shlex
 import sys
-from collections import namedtuple
+from collections import Counter, namedtuple
 
 from acpidis_tools import command
 from acpidis_tools.asl import forms, language
@@ -67,13 +67,12 @@ def check_method(path, found, reader):
 
 def files_of(made):
     """A name for the file of each table, of signs that no command takes for anything else."""
-    taken = set()
+    taken, numbers = set(), Counter()
     for it in made:
         base = name = re.sub(r"\\x..|[^A-Za-z0-9._+-]|^[.-]", "_", it.table.file[1:-1])
-        number = 1
         while name in taken:
-            number += 1
-            name = f"{base}-{number}"
+            numbers[base] += 1
+            name = f"{base}-{numbers[base] + 1}"
         taken.add(name)
         yield name + ".asl"
 

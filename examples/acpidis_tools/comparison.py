@@ -9,7 +9,7 @@ from functools import lru_cache
 
 from acpidis_tools.decoding import Decoder
 from acpidis_tools.listing import Dump, Line, Path, path_text
-from acpidis_tools.names import FIRST_WORD, SCOPES
+from acpidis_tools.names import FIRST_WORD
 
 LONGEST = 200
 # Of more pairs of lines the longest common ones aren't looked for: that takes time as their product.
@@ -114,7 +114,7 @@ def declaration_text(line: Line, path: Path, decoder: Decoder, by_number: dict[i
         unit = decoder.units[line.number]
         place = f"{shortened(unit.head)} {shortened(unit.behind) if unit.behind else ''} bit {unit.bit}"
         return [(line.number, place), head]
-    if line.end and line.term not in SCOPES:
+    if line.end and line.term == "Method":
         inside = (by_number[number] for number in range(line.number + 1, line.end + 1))
         return [head, *((inner.number, inner.text[2 * line.depth:]) for inner in inside)]
     return [head]

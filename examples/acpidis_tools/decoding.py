@@ -17,6 +17,8 @@ from acpidis_tools.terms import Term, places, terms_in
 HARDWARE_NAMES = ("_HID", "_CID")
 # A field over more descriptors is told of these alone.
 MOST_TOUCHED = 16
+# Of a buffer that is declared again and again the fields would be told as often.
+MOST_PATCHES = 128
 UNIT = re.compile(r", ([0-9]{1,9})")
 EVENT = re.compile("_([LEQ])([0-9A-F]{2})")
 EVENTS = {"L": "level event", "E": "edge event", "Q": "query"}
@@ -74,8 +76,9 @@ class Decoder:
             elif line.term.startswith("Create"):
                 source, (first, bits) = self.argument(line, 0), self.bits_of(line)
                 meaning = self.meanings(line).get(source.place) if source else None
-                if meaning and meaning.anchor and first is not None and bits is not None:
-                    self.patches[meaning.anchor].append((first, first + bits, line.words[-1]))
+                patches = self.patches[meaning.anchor] if meaning and meaning.anchor else None
+                if patches is not None and first is not None and bits is not None and len(patches) < MOST_PATCHES:
+                    patches.append((first, first + bits, line.words[-1]))
             elif line.term == "Return" and line.method and line.method[-1] in objects.MAKERS and len(line.words) == 2:
                 meaning = self.meanings(line).get(1)
                 if meaning and meaning.anchor:

@@ -16,11 +16,12 @@ NAME = re.compile(rf"(?:\\|\^+)?{SEGMENT}(?:\.{SEGMENT})*(?!\w)|\\|\^+")
 TEXT = r'"[^"]*"'
 # A name has no small letter, and the word of each opcode has one. To look at the first sign of each saves time.
 OPCODE = r"[A-Z](?=[A-Z]{0,30}[a-z])[A-Za-z]{1,30}[0-9]?"
-WORD = re.compile(rf'(?=["0A-Z_\\^])({TEXT}|0x[0-9A-F]+|{NAME.pattern}|{OPCODE})')
+WORD = re.compile(rf'(?=["0A-Z_\\^])({TEXT}|0x[0-9A-F]{{1,16}}(?!\w)|{NAME.pattern}|{OPCODE})')
 BETWEEN = " (){},0123456789ABCDEF"
 PATH = rf"\\(?:{SEGMENT}(?:\.{SEGMENT})*)?"
 # With --any-run a row may have two marks: what only may stand, and what is declared several times.
-ROW = re.compile(rf"  ({PATH}) ([A-Z][A-Za-z]+(?: [0-7]| {PATH})?)( Maybe)?(?: Times ([1-9][0-9]{{0,8}}))?")
+KIND = rf"Method [0-7]|Alias {PATH}|(?!Method|Alias)[A-Z][A-Za-z]+"
+ROW = re.compile(rf"  ({PATH}) ({KIND})( Maybe)?(?: Times ([1-9][0-9]{{0,8}}))?")
 RAW = re.compile(r"Raw \{(?:[0-9A-F]{2}(?:, [0-9A-F]{2})*)?\}")
 DUMP = re.compile(rf'(?:Table|Root) ({TEXT})(?: ({TEXT}) Length| Oem) .*')
 # The parts of the line of a dump, with a revision in front of the OEM or behind it
@@ -36,6 +37,7 @@ OPCODES = (pathlib.Path(__file__).parent / "opcodes.txt").read_text()
 TERMS = {"Raw", "Reserved", "Access", "ExtendedAccess", "Connection"}
 TERMS.update(re.findall(r"^[0-9A-F]+ (\w+)", OPCODES, re.MULTILINE))
 BLOCK = re.compile(rf"DefinitionBlock \(({TEXT})\) {{")
+PRINTED = bytes(range(0x20, 0x7F)) + b"\n"
 # So many lines share their pieces with those that are alike.
 MOST_KEPT = 10_000
 # What editors and shells put in front of a text in UTF-8, and in UTF-16
@@ -166,11 +168,14 @@ class Reader:
     def __init__(self, text: bytes):
         if not text:
             raise NoListing("it is empty")
-        if not text.isascii():
-            number = next(number for number, line in enumerate(text.split(b"\n"), 1) if not line.isascii())
-            said = "begins with a mark of UTF-8 or UTF-16" if text.startswith(MARKS) else "has a byte that isn't ASCII"
+        text = text.replace(b"\r\n", b"\n")
+        odd = text.translate(None, PRINTED)
+        if odd:
+            number = text.count(b"\n", 0, text.index(odd[:1])) + 1
+            is_marked = text.startswith(MARKS)
+            said = "begins with a mark of UTF-8 or UTF-16" if is_marked else "has a byte that isn't printable ASCII"
             raise NoListing(f"line {number} {said}")
-        *self.lines, rest = text.decode().replace("\r\n", "\n").split("\n")
+        *self.lines, rest = text.decode().split("\n")
         self.at = 0
         if not DUMP.fullmatch(self.lines[0] if self.lines else rest):
             raise NoListing("it doesn't begin as a listing of acpidis does, with a line Table or Root")

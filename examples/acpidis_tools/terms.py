@@ -80,5 +80,6 @@ def places(terms: list[Term]) -> Iterator[tuple[Term, Place]]:
             (part, Place(term, kinds[number] if number < len(kinds) else "A", number))
             for number, part in enumerate(term.arguments) if part is not None
         ]
-        parts += [(part, Place(term, "D", 0)) for part in term.braced] if isinstance(term.braced, list) else []
+        elements = term.braced if isinstance(term.braced, list) else []
+        parts += [(part, Place(term, "D", 0)) for part in elements if part is not None]
         waiting += reversed(parts)

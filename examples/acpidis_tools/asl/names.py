@@ -19,6 +19,7 @@ class Names:
     def __init__(self, space):
         self.space, self.own, self.externals, self.uses, self.scopes = space, set(), {}, [], set()
         self.inside = {}  # the scopes of what stands in the blocks of lines
+        self.methods = {}  # whether iasl knows these paths as methods
 
     def scope(self, line):
         return self.inside.get(line.above) or Scope(ROOT, None)
@@ -87,19 +88,22 @@ class Names:
         return None, False
 
     def is_method(self, path):
-        """Whether iasl knows a path as a method, through Aliases too, which may name each other."""
-        met = set()
-        while path not in met and path not in self.scopes:
-            met.add(path)
-            if path in self.externals:
-                return any(named.is_call for named, _ in self.externals[path])
+        """Whether iasl knows a path as a method, through Aliases too, which may name each other. Answers are kept."""
+        met = []
+        while path not in self.methods:
+            self.methods[path] = False  # for Aliases that name each other
+            met.append(path)
             kind = (self.space.kinds if path in self.own else running.PREDEFINED).get(path)
-            if not isinstance(kind, tuple):  # which is the target of an Alias
-                return isinstance(kind, int)
-            if kind not in self.own and kind not in self.externals:
-                return False
-            path = kind
-        return False
+            if path in self.scopes:
+                break
+            if path in self.externals:
+                self.methods[path] = any(named.is_call for named, _ in self.externals[path])
+            elif not isinstance(kind, tuple):  # which is the target of an Alias
+                self.methods[path] = isinstance(kind, int)
+            elif kind in self.own or kind in self.externals:
+                path = kind
+        self.methods.update(dict.fromkeys(met, self.methods[path]))
+        return self.methods[path]
 
 
 def externals(space, uses, own, said, rows):
