@@ -60,7 +60,10 @@ def code_of(dump, file):
 def place_in(code, path, file):
     """Where the one declaration of a path is."""
     reader = Reader(code, path)
-    stopped = reader.read()
+    try:
+        stopped = reader.read()
+    except aml.TooManySteps:
+        raise Refused(f"{file!r}: the scopes are too deep for this script to follow") from None
     if stopped < len(code):
         raise Refused(f"{file!r} can't be read behind byte {HEADER + stopped}")
     if reader.times != 1:

@@ -83,7 +83,9 @@ def dumped(text):
             raise cut(f"line {number}", name, data)
     if tables and not title and CUT_TITLE.fullmatch(line):
         raise Refused(f"line {len(lines)}: the text ends in the title of a table, {line!r}")
-    return [Table(bytes(data), name, address) for (_, name, address), data in tables]
+    # A text may have a table twice: one of an address is taken once.
+    found = [Table(bytes(data), name, address) for (_, name, address), data in tables]
+    return list({table if table.address else place: table for place, table in enumerate(found)}.values())
 
 
 def behind_each_other(data):
@@ -154,7 +156,10 @@ def write(folder, tables):
         for name, table in zip(names, tables):
             (part / name).write_bytes(table.data)
         if leads(tables):
-            lines = (f"{table.address:016X} {name}\n" for name, table in zip(names, tables) if table.address)
+            files = {}
+            for name, table in zip(names, tables):
+                files.setdefault(table.address, name)
+            lines = (f"{address:016X} {name}\n" for address, name in files.items() if address)
             (part / "tables.map").write_text("".join(lines), encoding="ascii")
         part.chmod(0o755)
     for name, table in zip(names, tables):

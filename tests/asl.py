@@ -179,7 +179,8 @@ class Checks(Tally):
     def check_names(self):
         """Files of names that a command could take for something else, and many blocks."""
         odd = ["-o", "a b;$(touch bad)", "..", "*/ \\x0A", "DSDT", "_-o"]
-        for what, names in (("odd", odd), ("many", [f"f{number}.dat" for number in range(512)])):
+        many, alike = ([name.format(number) for number in range(512)] for name in ("f{}.dat", "\\x01"))
+        for what, names in {"odd": odd, "many": many, "alike": alike}.items():
             heads = "".join(head_of(name, "SSDT") for name in names)
             blocks = "".join(f'DefinitionBlock ("{name}") {{\n}}\n' for name in names)
             text = self.text(f"{what}.text", f"{heads}Namespace 0\n{blocks}")
@@ -294,6 +295,10 @@ class Checks(Tally):
         words = [SPLICE, "deep", "deep", "MINE"]
         _, seconds = timed(self.says, "deep", words, 0, b"", deep, errors=None, most=2)
         self.is_so(f"a scope of 51,000 segments: {seconds} s", seconds < 2)
+        steps = shapes.within(255 * 12, method(b"_RUN", 0, NOOP) + shapes.regions(1000, 0, shapes.LEAF))
+        (self.room / "steps").write_bytes(table(b"DSDT", shapes.LEAF_NAME + steps))
+        said = "'steps': the scopes are too deep for this script to follow"
+        self.refuses("a search of too many steps", [SPLICE, "steps", "steps", "LEAF"], said, printed="")
         (self.room / "led").write_bytes(b"")
         (self.room / "link").symlink_to("led")
         self.says("through a link", [SPLICE, "-o", "link", old, new, "NAM1"], 0, "", "")
@@ -390,10 +395,12 @@ class Checks(Tally):
         words = {"rsdp.dat": "RSD PTR", "xsdt.dat": "XSDT", "facp.dat": "FACP", "dsdt.dat": "DSDT", "ssdt.dat": "SSDT"}
         places = (line.split() for line in files["tables.map"].decode().splitlines())
         texts = [dumped(words[name], int(place, 16), files[name]) for place, name in places]
-        for name, known, lines in (("chain", texts, 5), ("broken chain", texts[1:], 0)):
+        twice = [*texts, *texts, dumped("OEM1", 0x1000, table(b"OEM1", b""))]
+        for name, known, lines in (("chain", texts, 5), ("broken chain", texts[1:], 0), ("twice", twice, 5)):
             self.run(UNPACK, self.text(name, "".join(known) + "\n"), name + ".d")
             place = self.room / f"{name}.d" / "tables.map"
             self.is_same(name, len(place.read_text().splitlines()) if place.exists() else 0, lines)
+            self.is_same(f"files of {name}", len(list(place.parent.glob("ssdt*"))), 1)
             self.is_so(f"{name} is read", 'DefinitionBlock ("ssdt.dat")' in listed(self.room / f"{name}.d"))
 
     def check_show(self):
