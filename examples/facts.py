@@ -19,9 +19,11 @@ import argparse
 import contextlib
 import hashlib
 import json
+import multiprocessing
 import os
 import pathlib
 import re
+import signal
 import sqlite3
 import sys
 from collections import deque
@@ -67,14 +69,12 @@ class Machine:
             blocks = filter(None, map(BLOCK.fullmatch, reader.lines[reader.at :]))
             order = {form[1]: number for number, form in enumerate(blocks, 1)}
             # The sums of the dumps by the names of files as the listing has them
-            sums = {dump.file: sum_in(dumps, dump) for dump in found} if dumps else {}
+            sums = {file: sum_in(dumps, dump) for file, dump in {it.file: it for it in found}.items()} if dumps else {}
             self.lost = sum(it is None for it in sums.values())
             self.tables = [[*header_of(dump), order.get(dump.file), sums.get(dump.file)] for dump in found]
             self.records = record_rows(found)
-        except (NoListing, OSError) as fault:
+        except Exception as fault:
             self.fault = said(fault)
-        except MemoryError:
-            self.fault = NO_MEMORY
 
     def read(self) -> tuple[bytes, bytes]:
         text, errors = self.files
@@ -107,9 +107,12 @@ def printable(name: str) -> str:
 
 
 def said(fault: Exception) -> str:
-    if isinstance(fault, OSError):
+    """Why a machine has no facts, by whatever ended the reading of it."""
+    if isinstance(fault, OSError) and fault.filename:
         return f"cannot read {printable(os.fsdecode(fault.filename))}: {fault.strerror}"[:LONGEST_FAULT]
-    return str(fault)[:LONGEST_FAULT]
+    if isinstance(fault, NoListing):
+        return str(fault)[:LONGEST_FAULT]
+    return NO_MEMORY if isinstance(fault, MemoryError) else f"this script fails at it: {fault!r}"[:LONGEST_FAULT]
 
 
 def sum_of(text: bytes, errors: bytes) -> str:
@@ -222,11 +225,16 @@ def machines_of(asked: argparse.Namespace) -> Iterator[Machine]:
                 yield Machine(file, here / file, None, dumps and dumps / file)
 
 
+def pool_of(jobs: int) -> ProcessPoolExecutor:
+    """Processes that end by this script alone, which an interrupt reaches too."""
+    return ProcessPoolExecutor(jobs, initializer=signal.signal, initargs=(signal.SIGINT, signal.SIG_IGN))
+
+
 class Processes:
     """Processes that read listings; for one job there is none. Where one is ended, new ones take the place of all."""
 
     def __init__(self, jobs: int):
-        self.jobs, self.pool = jobs, ProcessPoolExecutor(jobs)
+        self.jobs, self.pool = jobs, pool_of(jobs)
 
     def submit(self, *words: bytes) -> Callable:
         """What gives the facts of a listing, once they are there."""
@@ -236,7 +244,7 @@ class Processes:
             return self.pool.submit(facts_of, *words).result
         except BrokenProcessPool:
             self.pool.shutdown()
-            self.pool = ProcessPoolExecutor(self.jobs)
+            self.pool = pool_of(self.jobs)
             return self.pool.submit(facts_of, *words).result
 
 
@@ -254,16 +262,30 @@ def add_all(facts: Facts, machines: Iterator[Machine], jobs: int) -> None:
             facts.add_machine(machine, code_sum)
             progress.step()
 
-    for machine in machines:
-        code_sum = "" if machine.fault else sum_of(machine.text, machine.errors)
-        result = None if code_sum in seen else processes.submit(machine.text, machine.errors)
-        seen.add(code_sum)
-        machine.text = machine.errors = b""
-        waiting.append((machine, code_sum, result))
-        add_but(WAITING * jobs if jobs > 1 else 0)
-    add_but(0)
-    processes.pool.shutdown()
-    progress.end()
+    try:
+        for machine in machines:
+            code_sum = "" if machine.fault else sum_of(machine.text, machine.errors)
+            result = None if code_sum in seen else processes.submit(machine.text, machine.errors)
+            seen.add(code_sum)
+            machine.text = machine.errors = b""
+            waiting.append((machine, code_sum, result))
+            add_but(WAITING * jobs if jobs > 1 else 0)
+        add_but(0)
+    finally:
+        end_processes()
+        processes.pool.shutdown()
+        progress.end()
+
+
+def end_processes() -> None:
+    for process in multiprocessing.active_children():
+        process.kill()
+
+
+def stop(number: int, _: object) -> None:
+    """Ends what reads listings with this script, whose part of the facts goes."""
+    end_processes()
+    raise KeyboardInterrupt if number == signal.SIGINT else SystemExit(128 + number)
 
 
 def outcome(machine: Machine, result: Callable) -> tuple[str, dict[str, list[list]]]:
@@ -272,13 +294,11 @@ def outcome(machine: Machine, result: Callable) -> tuple[str, dict[str, list[lis
     try:
         with contextlib.suppress(BrokenProcessPool):
             return result()
-        with ProcessPoolExecutor(1) as pool:
+        with pool_of(1) as pool:
             return pool.submit(facts_of, *machine.read()).result()
     except BrokenProcessPool:
         return ENDED, {}
-    except MemoryError:
-        return NO_MEMORY, {}
-    except (NoListing, OSError) as fault:
+    except Exception as fault:
         return said(fault), {}
 
 
@@ -302,6 +322,8 @@ def arguments() -> argparse.Namespace:
 
 
 def main() -> None:
+    for number in (signal.SIGINT, signal.SIGTERM):
+        signal.signal(number, stop)
     asked = arguments()
     is_one = not os.path.isdir(asked.listing)
     if asked.facts and os.path.lexists(asked.facts) and not (os.path.isfile(asked.facts) and has_facts(asked.facts)):

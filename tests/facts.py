@@ -15,13 +15,16 @@ import json
 import os
 import pathlib
 import re
+import signal
 import sqlite3
+import subprocess
 import sys
+import time
 from collections.abc import Iterator
 
 from tally import TOP, Outcome, Tally, asked, ended, first_difference, parts_in, written
 from acpidis_tools import command
-from hostile import facts_script
+from hostile import facts_script, head_of, text_of
 from made_aml import SETS, VERSIONS, table, tables
 from namespaces import path_text
 from running import REFUSED, Options, run_folder
@@ -197,6 +200,48 @@ class Checks(Tally):
         self.is_same("those without facts", {name: fault for name, fault in machines.items() if fault}, wanted)
         names = [f"good{number:02d}" for number in range(12)] + ["odd\\xFF"]
         self.is_same("those with facts", [name for name, fault in machines.items() if fault is None], names)
+
+    def check_end(self) -> None:
+        """A signal ends the processes too, at once, and no part of the facts is left."""
+        for count in range(8):
+            lines = [f"Method (AAAA, {count}, NotSerialized, 0) {{", *["  Store (Add (Arg0, 0x01, ), Local0)"] * 100_000, "}"]
+            written(self.room / f"ended/{count}", {"text": text_of([f"\\AAAA Method {count}"], lines).encode()})
+        words = [sys.executable, TOP / "examples/facts.py", "--jobs", "2", "ended", "ended.facts"]
+        for number, status in ((signal.SIGTERM, 143), (signal.SIGINT, 2)):
+            with subprocess.Popen(words, cwd=self.room, stderr=subprocess.PIPE, start_new_session=True) as script:
+                while not any(it.startswith(".part") for it in os.listdir(self.room)):
+                    time.sleep(0.01)
+                time.sleep(1)
+                before = time.monotonic()
+                script.send_signal(number)
+                said = script.communicate()
+            left = [it for it in os.listdir(self.room) if it.startswith((".part", "ended."))]
+            with contextlib.suppress(ProcessLookupError):
+                os.killpg(script.pid, 0)
+                left.append("a process")
+            self.is_same(f"what ends by {number}: {said}", (script.returncode, left), (status, []))
+            self.is_so("it ends at once", time.monotonic() - before < 3)
+
+    def check_dumps(self) -> None:
+        """A dump that several lines name is read once."""
+        text, dumps = self.text("again", head_of("d", "SSDT") * 3 + "Namespace 0\n"), written(self.room / "again.d", {"d": b""})
+        read, real = [], facts_script.file_of
+        facts_script.file_of = lambda *words: read.append(words) or real(*words)
+        facts_script.Machine("again", text, None, dumps)
+        facts_script.file_of = real
+        self.is_same("a dump of three lines", len(read), 1)
+
+    def check_asking(self) -> None:
+        """What ask.py takes for no facts, and for no question."""
+        self.rows("a.facts", "CREATE TABLE machine (name TEXT)")
+        for words, said in {
+            ("/dev/null", "select 1"): "no such table: machine", ("again", "select 1"): "file is not a database",
+            ("a.facts", "ATTACH 'b.facts' AS b"): "not authorized",
+            ("a.facts", "VACUUM INTO 'b.facts'"): "authorization denied",
+            ("a.facts", "DELETE FROM machine"): "attempt to write a readonly database",
+        }.items():
+            self.refuses(f"ask.py {words}", ["ask.py", *words], said)
+        self.is_so("nothing is written", not (self.room / "b.facts").exists())
 
     def check_questions(self) -> None:
         """The questions of tests/facts.txt, each with a row of its answer a line."""
