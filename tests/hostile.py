@@ -90,7 +90,7 @@ def mutated(lines: list, dice: random.Random) -> str:
             lines[at] = "".join(words)
         else:
             place = dice.randrange(len(lines[at]) + 1)
-            new, gone = (dice.choice('(){}\\^",.0AZ_a '), 0) if kind == 4 else ("", dice.randint(1, 4))
+            new, gone = (dice.choice([*'(){}\\^",.0AZ_a ', "{,", " {"]), 0) if kind == 4 else ("", dice.randint(1, 4))
             lines[at] = lines[at][:place] + new + lines[at][place + gone:]
         if not lines:
             return ""

@@ -320,6 +320,7 @@ class Checks(Tally):
             "an empty text": "", "another tool's": 'DefinitionBlock ("", "DSDT", 2, "A", "B", 1)\n{\n}\n',
             "a check": 'Check "a" Bytes 1\n', "a text": "a listing\n", "a line that is cut": self.hostile.out[:-3],
             "no ASCII": self.hostile.out.replace("Return", "R\xE9turn"), "21 MB": self.hostile.out + "  \n" * 7_000_000,
+            "an escape": self.hostile.out.replace('"TEST  "', '"\x1b[2J"'),
             "no opcode": self.hostile.out.replace("  Return", "  Reutrn"),
             "a line less": self.hostile.out.replace("    Device (PCI0) {\n", ""),
             **{f"the first {count} lines": "".join(lines[:count]) for count in range(1, len(lines), 7)},
