@@ -179,7 +179,7 @@ class Checks(Tally):
     def check_names(self):
         """Files of names that a command could take for something else, and many blocks."""
         odd = ["-o", "a b;$(touch bad)", "..", "*/ \\x0A", "DSDT", "_-o"]
-        many, alike = ([name.format(number) for number in range(512)] for name in ("f{}.dat", "\\x01"))
+        many, alike = ([name.format(number) for number in range(512)] for name in ("f{}.dat", "\\x{:02X}"))
         for what, names in {"odd": odd, "many": many, "alike": alike}.items():
             heads = "".join(head_of(name, "SSDT") for name in names)
             blocks = "".join(f'DefinitionBlock ("{name}") {{\n}}\n' for name in names)
