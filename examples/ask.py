@@ -23,11 +23,6 @@ def shown(value):
     return "".join(char if char.isprintable() else f"\\x{ord(char):02X}" for char in text)
 
 
-def allowed(action, *_):
-    """What a question may do: nothing that opens another file."""
-    return sqlite3.SQLITE_DENY if action == sqlite3.SQLITE_ATTACH else sqlite3.SQLITE_OK
-
-
 def main():
     asked = command.parser(__doc__, "FACTS", "SQL").parse_args()
     sql = sys.stdin.read() if asked.sql == "-" else asked.sql
@@ -36,7 +31,8 @@ def main():
     try:
         connection = sqlite3.connect(pathlib.Path(asked.facts).absolute().as_uri() + "?mode=ro", uri=True)
         connection.execute("SELECT name FROM machine LIMIT 0")  # a file of something else may have any answer
-        connection.set_authorizer(allowed)
+        judge = lambda action, *_: sqlite3.SQLITE_DENY if action == sqlite3.SQLITE_ATTACH else sqlite3.SQLITE_OK
+        connection.set_authorizer(judge)  # no other file is opened
         rows = connection.execute(sql)
         print("\t".join(column[0] for column in rows.description or ()))
         for row in rows:

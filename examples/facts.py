@@ -47,6 +47,8 @@ INCOMPLETE = 3
 NO_MEMORY, ENDED = "there is not enough memory to read it", "the process that read it was ended"
 # So many machines a process wait in their order.
 WAITING = 4
+# Processes that end by this script alone, which an interrupt reaches too
+pool_of = partial(ProcessPoolExecutor, initializer=signal.signal, initargs=(signal.SIGINT, signal.SIG_IGN))
 BLOCKS = re.compile(rb"^Namespace [0-9]", re.MULTILINE)
 
 
@@ -223,11 +225,6 @@ def machines_of(asked: argparse.Namespace) -> Iterator[Machine]:
         elif here == top:
             for file in sorted(file for file in files if not file.startswith(".")):
                 yield Machine(file, here / file, None, dumps and dumps / file)
-
-
-def pool_of(jobs: int) -> ProcessPoolExecutor:
-    """Processes that end by this script alone, which an interrupt reaches too."""
-    return ProcessPoolExecutor(jobs, initializer=signal.signal, initargs=(signal.SIGINT, signal.SIG_IGN))
 
 
 class Processes:

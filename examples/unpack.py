@@ -156,10 +156,8 @@ def write(folder, tables):
         for name, table in zip(names, tables):
             (part / name).write_bytes(table.data)
         if leads(tables):
-            files = {}
-            for name, table in zip(names, tables):
-                files.setdefault(table.address, name)
-            lines = (f"{address:016X} {name}\n" for address, name in files.items() if address)
+            files = {table.address: name for name, table in zip(names[::-1], tables[::-1]) if table.address}
+            lines = (f"{address:016X} {name}\n" for address, name in reversed(files.items()))
             (part / "tables.map").write_text("".join(lines), encoding="ascii")
         part.chmod(0o755)
     for name, table in zip(names, tables):

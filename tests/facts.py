@@ -238,7 +238,6 @@ class Checks(Tally):
             ("/dev/null", "select 1"): "no such table: machine", ("again", "select 1"): "file is not a database",
             ("a.facts", "ATTACH 'b.facts' AS b"): "not authorized",
             ("a.facts", "VACUUM INTO 'b.facts'"): "authorization denied",
-            ("a.facts", "DELETE FROM machine"): "attempt to write a readonly database",
         }.items():
             self.refuses(f"ask.py {words}", ["ask.py", *words], said)
         self.is_so("nothing is written", not (self.room / "b.facts").exists())
