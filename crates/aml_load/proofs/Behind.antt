@@ -1,6 +1,6 @@
 -- Terms that tables read as, where the code outside methods may run, declare by themselves what the reading leaves
 -- behind them: a term does what its step does, since no term with terms inside it is a method.
-use Rattle.std.proofs.Common.{◌≡◌, ℕ, suc, Bool, true, false, List, [], ◌∷◌, length, Option, Some, None, Result, Ok}
+use Rattle.std.proofs.Common.{◌≡◌, ℕ, suc, Bool, true, false, cond, List, [], ◌∷◌, length, Option, Some, None, Result, Ok}
 use Rattle.std.proofs.Common.{refl, sym, ap, ◌∙◌, ◌-◌, ◌+◌}
 use Rattle.std.specs.Option.{option_map, unwrap_or}
 use Rattle.aml_code.specs.declared.packages.PkgWidth.{PkgWidth}
@@ -63,14 +63,23 @@ module _ (ps : Parts) (ts : Trees) (start len : ℕ) where
 abbrev the_front : Front → Result Front LoadFault
 the_front f = Ok f
 
+-- a term without an opcode, and its front
+abbrev alone : Front → Tree → Front
+alone f x = cond f.site.any_run (asked f x) f
+
 -- behind a term, by the front behind the terms inside it
 abbrev behind : Front → Front → Result Front LoadFault
 behind f ended = Ok (record f { listed = ended.listed })
 
 -- a term without an opcode, which stays where it is
-passed : (f inner ended : Front) (x : Tree) → the_front (asked f x) ≡ Ok inner → inner ≡ ended
-    → the_front (asked f x) ≡ behind f ended
-passed f inner ended x is same = let here : asked f x ≡ ended = cc in ap (λ (k : Front). behind f k) here
+passed : (f inner ended : Front) (x : Tree) → the_front (alone f x) ≡ Ok inner → inner ≡ ended
+    → the_front (alone f x) ≡ behind f ended
+passed f inner ended x is same =
+    let here : alone f x ≡ ended = cc in by f.site.any_run ∙ ap (λ (k : Front). behind f k) here
+  where
+    by : (any : Bool) → the_front (cond any (asked f x) f) ≡ behind f (cond any (asked f x) f)
+    by true = refl
+    by false = refl
 
 module _ (t : ℕ) (code : List ℕ) where
   mutual
@@ -104,12 +113,12 @@ module _ (t : ℕ) (code : List ℕ) where
 
 -- the tables from number t on
 pub tables_behind : (t : ℕ) (l : Listed) (codes : List (List ℕ)) (trees : List Trees) (m : Listed)
-    → ReadTables true t l codes trees m → behind_tables t l trees ≡ Ok m
+    → ReadTables true t l codes trees m → behind_tables true t l trees ≡ Ok m
 unfolding behind_tables
 tables_behind t l [] [] m read = ap (λ (k : Listed). Ok k) read
 tables_behind t l [] (ts ∷ rest) m read = absurd read
 tables_behind t l (c ∷ codes) [] m read = absurd read
 tables_behind t l (c ∷ codes) (ts ∷ rest) m (k, (g, reads, same), read) =
-    ap (λ (r : Result Front LoadFault). r >>= λ f. behind_tables (suc t) f.listed rest)
-    (read_behind t c most_levels positions.RunTerm 0 (length c) (table_front t l) ts g reads)
-    ∙ ap (λ (j : Listed). behind_tables (suc t) j rest) same ∙ tables_behind (suc t) k codes rest m read
+    ap (λ (r : Result Front LoadFault). (r >>= λ f. Ok f.listed) >>= λ j. behind_tables true (suc t) j rest)
+    (read_behind t c most_levels positions.RunTerm 0 (length c) (table_front true t l) ts g reads)
+    ∙ ap (λ (j : Listed). behind_tables true (suc t) j rest) same ∙ tables_behind (suc t) k codes rest m read

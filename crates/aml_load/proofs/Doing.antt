@@ -1,7 +1,7 @@
 -- What a term does itself is what declaring it forward lists, and where the terms inside it stand.
 use Rattle.std.specs.FinSet as set
 use Rattle.std.specs.Option.{ok_or, option_and_then, option_map, option_or}
-use Rattle.std.proofs.Common.{◌≡◌, ◌≤◌, ◌⊎◌, inl, inr, ℕ, ◌-◌, ◌+◌, Bool, true, false, not, ◌&&◌, cond, List, [], ◌∷◌, ◌++◌}
+use Rattle.std.proofs.Common.{◌≡◌, ◌≤◌, ◌⊎◌, inl, inr, ℕ, ◌-◌, ◌+◌, Bool, true, false, not, ◌&&◌, ◌||◌, cond, List, [], ◌∷◌, ◌++◌}
 use Rattle.std.proofs.Common.{length, Option, Some, None, is_some, Result, Ok, Err, refl, sym, ap, subst, ◌∙◌, arith, nat_le, ◌==◌}
 use Rattle.std.proofs.Common.{take}
 use Rattle.std.specs.Prelude.{option_to_list}
@@ -34,12 +34,12 @@ use Rattle.aml_namespace.specs.Namespace.{Entry, external, declared_at, namespac
 use Rattle.aml_namespace.specs.Runs.{outlook_of, agreed_or, first_agreed, agreed_path}
 use Rattle.aml_load.specs.declared.faults.LoadFault.{LoadFault}
 use Rattle.aml_load.specs.declared.faults.LoadFault.TheVariants as loads
-use Rattle.aml_load.specs.Declaring.{◌>>=◌, strict, Listed, plus, most_methods, first_label, byte_of, body_span}
+use Rattle.aml_load.specs.Declaring.{◌>>=◌, Listed, plus, most_methods, first_label, byte_of, body_span}
 use Rattle.aml_load.specs.Declaring.{lead_of, place_at, lead_at, entry_at, new_at, method_at, alias_at, external_at}
-use Rattle.aml_load.specs.Declaring.{units_at, declare_as}
+use Rattle.aml_load.specs.Declaring.{units_at}
 use Rattle.aml_load.specs.Loading.{role_of, kind_of, Where, methods_of, plain_entry, method_entry}
 use Rattle.aml_load.specs.Loading.{alias_entry, AddsUnits, in_object, in_scope, Does}
-use Rattle.aml_load.specs.Running.{Front, opened_by, opened_at, object_at, scope_at, enter_as}
+use Rattle.aml_load.specs.Running.{Front, opened_by, opened_at, object_at, scope_at, flat_at, enter_as}
 use Rattle.aml_load.proofs.Holding.{methods_more}
 use Rattle.aml_load.proofs.SpanLaws.{role_is}
 
@@ -329,7 +329,7 @@ module _ (site : Where) (l : Listed) where
   abbrev IsNew : List Seg → Type 0
   IsNew p = site.any_run ≡ false → declared_at l.entries p ≡ None
 
-  entry_is : (p : List Seg) (x : Entry) (m : Listed) → entry_at site l p x ≡ Ok m → IsNew p × (plus l x ≡ m)
+  pub entry_is : (p : List Seg) (x : Entry) (m : Listed) → entry_at site l p x ≡ Ok m → IsNew p × (plus l x ≡ m)
   unfolding entry_at
   entry_is p x m is = by (not site.any_run && is_some (declared_at l.entries p)) refl is
     where
@@ -394,10 +394,10 @@ has_room es fs x one same few =
     ∙ length-append (methods_of es) (methods_of (x ∷ [])) ∙ ap (λ n. length (methods_of es) + n) one in
     grind (arith, nat_tests, all, few)
 
-module _ (site : Where) (l : Listed) (ps : Parts) (x : Tail) (inside : Listed → Where → Result Listed LoadFault) (below : Where) where
-  pub flat_is : (r : Role) (m : Listed) → is_flat r ≡ true → declare_as r site l ps x inside ≡ Ok m
+module _ (site : Where) (l : Listed) (ps : Parts) (x : Tail) (below : Where) where
+  pub flat_is : (r : Role) (m : Listed) → is_flat r ≡ true → flat_at r site l ps x ≡ Ok m
       → Lists l m (λ fs. DoesBy r site l.entries ps x fs below)
-  unfolding declare_as method_at alias_at external_at
+  unfolding flat_at method_at alias_at external_at
   flat_is roles.Method m flat is = by (nat_le most_methods (length (methods_of l.entries))) is
     where
       entry : List Seg → Entry
@@ -419,8 +419,8 @@ module _ (site : Where) (l : Listed) (ps : Parts) (x : Tail) (inside : Listed �
   flat_is _ m flat is = absurd cc
 
   pub flat_so : (r : Role) (fs : List Entry) → is_flat r ≡ true → length (methods_of fs) ≤ most_methods
-      → DoesBy r site l.entries ps x fs below → declare_as r site l ps x inside ≡ Ok (with_entries l fs)
-  unfolding declare_as method_at alias_at external_at
+      → DoesBy r site l.entries ps x fs below → flat_at r site l ps x ≡ Ok (with_entries l fs)
+  unfolding flat_at method_at alias_at external_at
   flat_so roles.Method fs flat few new =
       let entry : List Seg → Entry = method_entry site l.entries (byte_of ps) (body_span x) in
       ap (λ b. cond b (Err loads.TooManyMethods) (new_at site l (last_label None ps) entry)) (has_room l.entries fs (entry new.0) refl new.3 few)
@@ -435,100 +435,20 @@ module _ (site : Where) (l : Listed) (ps : Parts) (x : Tail) (inside : Listed �
   flat_so roles.Fields fs flat few new = units_so site l (field_names x) fs new
   flat_so _ fs flat few new = absurd cc
 
--- ---- a term of a table that is read whole
+-- ---- a term of a table
 
--- into which declaring goes
-abbrev pub goes_in : Role → Bool
-goes_in (roles.Declares o) = true
-goes_in roles.Scope = true
-goes_in roles.Guard = true
-goes_in _ = false
+abbrev pub site_in : Bool → ℕ → List Seg → Bool → Where
+site_in any t s b = record { table = t; scope = s; any_run = any; sure = b }
 
-or_none : {A : Type 0} (o : Option A) → option_or o None ≡ o
-or_none None = refl
-or_none (Some x) = refl
+abbrev pub front_in : Bool → ℕ → List Seg → Bool → Listed → Front
+front_in any t s b l = record { listed = l; site = site_in any t s b }
 
-module _ (t : ℕ) (scope : List Seg) (l : Listed) (ps : Parts) (x : Tail) (inside : Listed → Where → Result Listed LoadFault) where
-  abbrev here : Where
-  here = strict t scope
-
-  -- an object is new, so its terms are sure
-  object_strict : (p : List Seg) → declared_at l.entries p ≡ None → in_object here l.entries p ≡ strict t p
-  object_strict p new = ap (λ (k : Option Kind). record { table = t; scope = p; any_run = false; sure = not (is_some k) }) new
-
-  -- what a term does, and what the terms inside it declare behind that, if declaring goes into it
-  abbrev pub Goes : Role → Listed → Where → Listed → Type 0
-  Goes r k below m =
-      ((s : List Seg) × (below ≡ strict t s) × (inside k (strict t s) ≡ Ok m)) ⊎ ((goes_in r ≡ false) × (k ≡ m))
-
-  pub strict_is : (r : Role) (m : Listed) → declare_as r here l ps x inside ≡ Ok m
-      → (k : Listed) × (below : Where) × Lists l k (λ fs. DoesBy r here l.entries ps x fs below) × Goes r k below m
-  unfolding declare_as
-  strict_is (roles.Declares o) m is =
-      let n = last_label None ps in
-      let at = bound (place_at here n) _ m is in
-      let one = bound (entry_at here l at.0 (plain_entry here l.entries (kind_of o) at.0)) _ m at.2 in
-      let new = entry_is here l at.0 (plain_entry here l.entries (kind_of o) at.0) one.0 one.1 in
-      let path = place_is here l.entries n at.0 at.1 in (
-        one.0,
-        strict t at.0,
-        ((path, (at.0, path, new.0, sym (ap (λ (k : Listed). k.entries) new.1)), sym (object_strict at.0 (new.0 refl))), sym (ap (λ (k : Listed). k.uses) new.1)),
-        inl (at.0, refl, one.2),
-      )
-  strict_is roles.Scope m is =
-      let n = last_label None ps in
-      let at = bound (lead_at here l.entries n (λ p. faults.ScopeMissing p)) _ m is in
-      let lead = lead_is here l.entries n _ at.0 at.1 in
-      (l, strict t at.0, ((or_none (lead_of here l.entries n) ∙ lead, refl, refl), refl), inl (at.0, refl, at.2))
-  strict_is roles.Guard m is = (l, here, ((refl, refl), refl), inl (scope, refl, is))
-  strict_is roles.Other m is = let same : l ≡ m = cc in (l, here, ((refl, refl), refl), inr (refl, same))
-  strict_is roles.Method m is = (m, here, flat_is here l ps x inside here roles.Method m refl is, inr (refl, refl))
-  strict_is roles.Alias m is = (m, here, flat_is here l ps x inside here roles.Alias m refl is, inr (refl, refl))
-  strict_is roles.External m is = (m, here, flat_is here l ps x inside here roles.External m refl is, inr (refl, refl))
-  strict_is roles.Fields m is = (m, here, flat_is here l ps x inside here roles.Fields m refl is, inr (refl, refl))
-
-  abbrev pub GoesSo : Role → List Entry → Where → Type 0
-  GoesSo r gs below =
-      ((s : List Seg) × (below ≡ strict t s) × (declare_as r here l ps x inside ≡ inside (with_entries l gs) (strict t s)))
-      ⊎ ((goes_in r ≡ false) × (declare_as r here l ps x inside ≡ Ok (with_entries l gs)))
-
-  pub strict_so : (r : Role) (gs : List Entry) (below : Where) → length (methods_of gs) ≤ most_methods
-      → DoesBy r here l.entries ps x gs below → GoesSo r gs below
-  unfolding declare_as
-  strict_so (roles.Declares o) gs below few (path, (p, at, new, same), stands) =
-      let n = last_label None ps in
-      let entry : List Seg → Entry = plain_entry here l.entries (kind_of o) in
-      let one : below.scope ≡ p = (let both = sym path ∙ at in cc) in
-      inl (
-        p,
-        stands ∙ ap (in_object here l.entries) one ∙ object_strict p (new refl),
-        ap (λ (r : Result (List Seg) LoadFault). r >>= λ p. (entry_at here l p (entry p) >>= λ m. inside m (strict t p))) (place_so here l.entries n p at)
-            ∙ ap (λ (r : Result Listed LoadFault). r >>= λ m. inside m (strict t p)) (entry_so here l p (entry p) new)
-            ∙ ap (λ es. inside (with_entries l es) (strict t p)) (sym same),
-      )
-  strict_so roles.Scope gs below few (leads, same, stands) =
-      let n = last_label None ps in
-      let lead = sym (or_none (lead_of here l.entries n)) ∙ leads in
-      inl (
-        below.scope,
-        stands,
-        ap (λ (r : Result (List Seg) LoadFault). r >>= λ p. inside l (strict t p)) (lead_so here l.entries n _ below.scope lead)
-            ∙ ap (λ es. inside (with_entries l es) (strict t below.scope)) same,
-      )
-  strict_so roles.Guard gs below few (same, stands) = inl (scope, stands, ap (λ es. inside (with_entries l es) here) same)
-  strict_so roles.Other gs below few (same, stands) = inr (refl, ap (λ es. the_ok (with_entries l es)) same)
-  strict_so roles.Method gs below few does = inr (refl, flat_so here l ps x inside below roles.Method gs refl few does)
-  strict_so roles.Alias gs below few does = inr (refl, flat_so here l ps x inside below roles.Alias gs refl few does)
-  strict_so roles.External gs below few does = inr (refl, flat_so here l ps x inside below roles.External gs refl few does)
-  strict_so roles.Fields gs below few does = inr (refl, flat_so here l ps x inside below roles.Fields gs refl few does)
-
--- ---- a term of a table that is read from the left
-
+-- the same where its code may run
 abbrev pub run_site : ℕ → List Seg → Bool → Where
-run_site t s b = record { table = t; scope = s; any_run = true; sure = b }
+run_site = site_in true
 
 abbrev pub front : ℕ → List Seg → Bool → Listed → Front
-front t s b l = record { listed = l; site = run_site t s b }
+front = front_in true
 
 abbrev the_path : List Seg → Result (List Seg) LoadFault
 the_path p = Ok p
@@ -557,9 +477,14 @@ module _ (t : ℕ) (path : Option (List Seg)) where
   opens_path q None true led is = absurd cc
   opens_path q None false led is = (q, is)
 
-module _ (t : ℕ) (s : List Seg) (b : Bool) (l : Listed) (ps : Parts) (x : Tail) where
+-- a Scope may open its own path
+shut : (any known : Bool) → not (not any || known) ≡ (any && not known)
+shut true known = refl
+shut false known = refl
+
+module _ (any : Bool) (t : ℕ) (s : List Seg) (b : Bool) (l : Listed) (ps : Parts) (x : Tail) where
   abbrev at_front : Where
-  at_front = run_site t s b
+  at_front = site_in any t s b
 
   abbrev last_name : Option Name
   last_name = last_label None ps
@@ -567,31 +492,38 @@ module _ (t : ℕ) (s : List Seg) (b : Bool) (l : Listed) (ps : Parts) (x : Tail
   abbrev known : Bool
   known = is_some (option_and_then (found (namespace_of l.entries) set.empty s) last_name)
 
+  abbrev path : Option (List Seg)
+  path = option_and_then (placed s) last_name
+
+  -- the path that a Scope opens, as it is opened
+  opens_as : opens t path (lead_of at_front l.entries last_name) (not any || known) ≡ opened_in at_front l.entries last_name
+  opens_as = ap (λ (c : Bool). option_or (lead_of at_front l.entries last_name) (cond c path None)) (shut any known)
+
   abbrev on_front : Listed → Result Front LoadFault
-  on_front m = Ok (front t s b m)
+  on_front m = Ok (front_in any t s b m)
 
   abbrev flat_step : Role → Result Front LoadFault
-  flat_step r = declare_as r at_front l ps x (λ l site. Ok l) >>= on_front
+  flat_step r = flat_at r at_front l ps x >>= on_front
 
   -- what is there then, and where the terms inside stand
   abbrev pub EntersIs : Role → Front → Type 0
-  EntersIs r inner = (k : Listed) × (d : List Seg) × (c : Bool) × (inner ≡ front t d c k)
-      × Lists l k (λ fs. DoesBy r at_front l.entries ps x fs (run_site t d c))
+  EntersIs r inner = (k : Listed) × (d : List Seg) × (c : Bool) × (inner ≡ front_in any t d c k)
+      × Lists l k (λ fs. DoesBy r at_front l.entries ps x fs (site_in any t d c))
 
   flat_enters : (r : Role) (inner : Front) → is_flat r ≡ true → flat_step r ≡ Ok inner → EntersIs r inner
   flat_enters r inner flat is =
-      let one = bound (declare_as r at_front l ps x (λ l site. Ok l)) _ inner is in
-      let same : front t s b one.0 ≡ inner = (let h = one.2 in cc) in
-      (one.0, s, b, sym same, flat_is at_front l ps x (λ l site. Ok l) at_front r one.0 flat one.1)
+      let one = bound (flat_at r at_front l ps x) _ inner is in
+      let same : front_in any t s b one.0 ≡ inner = (let h = one.2 in cc) in
+      (one.0, s, b, sym same, flat_is at_front l ps x at_front r one.0 flat one.1)
 
-  pub enter_is : (r : Role) (inner : Front) → enter_as r (front t s b l) ps x ≡ Ok inner → EntersIs r inner
+  pub enter_is : (r : Role) (inner : Front) → enter_as r (front_in any t s b l) ps x ≡ Ok inner → EntersIs r inner
   unfolding enter_as object_at scope_at opened_at
   enter_is (roles.Declares o) inner is =
       let at = bound (place_at at_front last_name) _ inner is in
       let one = bound (entry_at at_front l at.0 (plain_entry at_front l.entries (kind_of o) at.0)) _ inner at.2 in
       let new = entry_is at_front l at.0 (plain_entry at_front l.entries (kind_of o) at.0) one.0 one.1 in
       let path = place_is at_front l.entries last_name at.0 at.1 in
-      let same : front t at.0 (in_object at_front l.entries at.0).sure one.0 ≡ inner = (let h = one.2 in cc) in (
+      let same : front_in any t at.0 (in_object at_front l.entries at.0).sure one.0 ≡ inner = (let h = one.2 in cc) in (
         one.0,
         at.0,
         (in_object at_front l.entries at.0).sure,
@@ -601,16 +533,16 @@ module _ (t : ℕ) (s : List Seg) (b : Bool) (l : Listed) (ps : Parts) (x : Tail
   enter_is roles.Scope inner is =
       let opening = bound (opened_at at_front l.entries last_name) _ inner is in
       let at = bound (place_at at_front last_name) _ opening.0 opening.1 in
-      let same : front t opening.0 (in_scope at_front l.entries opening.0).sure l ≡ inner = (let h = opening.2 in cc) in
-      let path = place_is at_front l.entries last_name at.0 at.1 in (
+      let same : front_in any t opening.0 (in_scope at_front l.entries opening.0).sure l ≡ inner = (let h = opening.2 in cc) in
+      let there = place_is at_front l.entries last_name at.0 at.1 in (
         l,
         opening.0,
         (in_scope at_front l.entries opening.0).sure,
         sym same,
-        ((opened_is t (option_and_then (placed s) last_name) at.0 opening.0 (lead_of at_front l.entries last_name) known path at.2, refl, refl), refl),
+        ((sym opens_as ∙ opened_is t path at.0 opening.0 (lead_of at_front l.entries last_name) (not any || known) there at.2, refl, refl), refl),
       )
-  enter_is roles.Guard inner is = let same : front t s false l ≡ inner = cc in (l, s, false, sym same, ((refl, refl), refl))
-  enter_is roles.Other inner is = let same : front t s false l ≡ inner = cc in (l, s, false, sym same, ((refl, refl), refl))
+  enter_is roles.Guard inner is = let same : front_in any t s (not any && b) l ≡ inner = cc in (l, s, not any && b, sym same, ((refl, refl), refl))
+  enter_is roles.Other inner is = let same : front_in any t s (not any && b) l ≡ inner = cc in (l, s, not any && b, sym same, ((refl, refl), refl))
   enter_is roles.Method inner is = flat_enters roles.Method inner refl is
   enter_is roles.Alias inner is = flat_enters roles.Alias inner refl is
   enter_is roles.External inner is = flat_enters roles.External inner refl is
@@ -619,13 +551,13 @@ module _ (t : ℕ) (s : List Seg) (b : Bool) (l : Listed) (ps : Parts) (x : Tail
   -- entering gives a front of these entries, at the site where the terms inside stand, if there can be any
   abbrev pub EntersSo : Role → List Entry → Where → Type 0
   EntersSo r gs below = (d : List Seg) × (c : Bool)
-      × (enter_as r (front t s b l) ps x ≡ Ok (front t d c (with_entries l gs)))
-      × ((below ≡ run_site t d c) ⊎ (is_flat r ≡ true))
+      × (enter_as r (front_in any t s b l) ps x ≡ Ok (front_in any t d c (with_entries l gs)))
+      × ((below ≡ site_in any t d c) ⊎ (is_flat r ≡ true))
 
   flat_enters_so : (r : Role) (gs : List Entry) (below : Where) → is_flat r ≡ true → length (methods_of gs) ≤ most_methods
       → DoesBy r at_front l.entries ps x gs below → flat_step r ≡ on_front (with_entries l gs)
   flat_enters_so r gs below flat few does =
-      ap (λ (r : Result Listed LoadFault). r >>= on_front) (flat_so at_front l ps x (λ l site. Ok l) below r gs flat few does)
+      ap (λ (r : Result Listed LoadFault). r >>= on_front) (flat_so at_front l ps x below r gs flat few does)
 
   pub enter_so : (r : Role) (gs : List Entry) (below : Where) → length (methods_of gs) ≤ most_methods
       → DoesBy r at_front l.entries ps x gs below → EntersSo r gs below
@@ -636,28 +568,28 @@ module _ (t : ℕ) (s : List Seg) (b : Bool) (l : Listed) (ps : Parts) (x : Tail
       let sure : Bool = (in_object at_front l.entries p).sure in (
         p,
         sure,
-        ap (λ (r : Result (List Seg) LoadFault). r >>= λ p. (entry_at at_front l p (entry p) >>= λ m. Ok (front t p (in_object at_front l.entries p).sure m)))
+        ap (λ (r : Result (List Seg) LoadFault). r >>= λ p. (entry_at at_front l p (entry p) >>= λ m. Ok (front_in any t p (in_object at_front l.entries p).sure m)))
             (place_so at_front l.entries last_name p at)
-            ∙ ap (λ (r : Result Listed LoadFault). r >>= λ m. Ok (front t p sure m)) (entry_so at_front l p (entry p) new)
-            ∙ ap (λ es. Ok (front t p sure (with_entries l es))) (sym same),
+            ∙ ap (λ (r : Result Listed LoadFault). r >>= λ m. Ok (front_in any t p sure m)) (entry_so at_front l p (entry p) new)
+            ∙ ap (λ es. Ok (front_in any t p sure (with_entries l es))) (sym same),
         inl (stands ∙ ap (in_object at_front l.entries) one),
       )
   enter_so roles.Scope gs below few (leads, same, stands) =
-      let path = option_and_then (placed s) last_name in
       let lead = lead_of at_front l.entries last_name in
-      let at = opens_path t path below.scope lead known (λ r. lead_placed at_front l.entries last_name r) leads in
+      let opening = opens_as ∙ leads in
+      let at = opens_path t path below.scope lead (not any || known) (λ r. lead_placed at_front l.entries last_name r) opening in
       let sure : List Seg → Bool = λ p. (in_scope at_front l.entries p).sure in (
         below.scope,
         sure below.scope,
-        ap (λ (r : Result (List Seg) LoadFault). (r >>= λ p. opened_by t p known lead) >>= λ p. Ok (front t p (sure p) l))
+        ap (λ (r : Result (List Seg) LoadFault). (r >>= λ p. opened_by t p (not any || known) lead) >>= λ p. Ok (front_in any t p (sure p) l))
             (place_so at_front l.entries last_name at.0 at.1)
-            ∙ ap (λ (r : Result (List Seg) LoadFault). r >>= λ p. Ok (front t p (sure p) l))
-            (opened_so t path at.0 below.scope lead known at.1 leads)
-            ∙ ap (λ es. Ok (front t below.scope (sure below.scope) (with_entries l es))) same,
+            ∙ ap (λ (r : Result (List Seg) LoadFault). r >>= λ p. Ok (front_in any t p (sure p) l))
+            (opened_so t path at.0 below.scope lead (not any || known) at.1 opening)
+            ∙ ap (λ es. Ok (front_in any t below.scope (sure below.scope) (with_entries l es))) same,
         inl stands,
       )
-  enter_so roles.Guard gs below few (same, stands) = (s, false, ap (λ es. Ok (front t s false (with_entries l es))) same, inl stands)
-  enter_so roles.Other gs below few (same, stands) = (s, false, ap (λ es. Ok (front t s false (with_entries l es))) same, inl stands)
+  enter_so roles.Guard gs below few (same, stands) = (s, not any && b, ap (λ es. Ok (front_in any t s (not any && b) (with_entries l es))) same, inl stands)
+  enter_so roles.Other gs below few (same, stands) = (s, not any && b, ap (λ es. Ok (front_in any t s (not any && b) (with_entries l es))) same, inl stands)
   enter_so roles.Method gs below few does = (s, b, flat_enters_so roles.Method gs below refl few does, inr refl)
   enter_so roles.Alias gs below few does = (s, b, flat_enters_so roles.Alias gs below refl few does, inr refl)
   enter_so roles.External gs below few does = (s, b, flat_enters_so roles.External gs below refl few does, inr refl)

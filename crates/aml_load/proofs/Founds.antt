@@ -1,5 +1,5 @@
 -- The terms that a walk finds, step by step.
-use Rattle.std.proofs.Common.{◌≡◌, ℕ, suc, true, false, List, [], ◌∷◌, ◌++◌, Option, Some, None, Result, Ok, Err, sym}
+use Rattle.std.proofs.Common.{◌≡◌, ℕ, suc, true, false, List, [], ◌∷◌, ◌++◌, Result, Ok, Err, sym}
 use Rattle.std.proofs.Common.{ap, append_assoc, refl, ◌∙◌, Bool, ◌⊎◌, inl, inr}
 use Rattle.std.specs.Prelude.{IfErr}
 use Rattle.aml_code.specs.Tree.{Tree, nothing, named, op, Trees, tree_more}
@@ -10,14 +10,12 @@ use Rattle.aml_load.specs.declared.faults.LoadFault.TheVariants as loads
 use Rattle.aml_load.specs.declared.standing.StandingTerm.{StandingTerm}
 use Rattle.aml_load.specs.declared.walking.Progress.{Progress}
 use Rattle.aml_load.specs.Declaring.{◌>>=◌, Listed, first_listed}
-unfoldable use Rattle.aml_load.specs.Front.{head_enters, enters_by}
-unfoldable use Rattle.aml_load.specs.Hearing.{enter, enter_as}
-use Rattle.aml_load.specs.Hearing.{call_at}
+unfoldable use Rattle.aml_load.specs.Hearing.{head_enters, enters_by}
+use Rattle.aml_load.specs.Running.{Front, behind_tables}
 use Rattle.aml_load.specs.Loading.{Where, LoadsTo}
 use Rattle.aml_load.specs.Standing.{◌>>>◌, Standing, stands}
-use Rattle.aml_load.specs.Standings.{standings_view, AreStanding, Found, declare_tables, set_declares, enters_at}
+use Rattle.aml_load.specs.Standings.{standings_view, AreStanding, Found, set_declares, enters_at}
 use Rattle.aml_load.specs.Standings.{walk, walk_within, walk_all, met, met_within, met_all}
-use Rattle.aml_load.specs.Standings as standings
 use Rattle.aml_load.specs.Tables.{Fails, ReadTables, ListsTo}
 use Rattle.aml_load.specs.Walking.{KeepsPaths, Stays}
 use Rattle.aml_load.proofs.Inside.{still_among, still_path}
@@ -80,59 +78,50 @@ unfolding walk_all
 terms_fail site m x xs e (inl want) = inl want
 terms_fail site m x xs e (inr fails) = inr (ap (λ (r : Result Listed LoadFault). r >>= λ j. walk_all site j xs) fails)
 
-abbrev no_terms : Listed × Option Where → List Standing
-no_terms y = []
+abbrev no_terms : Front → List Standing
+no_terms f = []
 
-none_met : (q : Result (Listed × Option Where) LoadFault) → (q >>> no_terms) ≡ []
+none_met : (q : Result Front LoadFault) → (q >>> no_terms) ≡ []
 none_met (Ok y) = refl
 none_met (Err e) = refl
 
 -- a term by what its head does, and those inside it
 module _ (site : Where) (l : Listed) where
-  walk_is : (x : Tree) → walk site l x ≡ (enters_at site l x >>= λ y. walk_within y.1 y.0 x)
-  unfolding walk head_enters enters_by enter enter_as
+  walk_is : (x : Tree) → walk site l x ≡ (enters_at site l x >>= λ f. walk_within f.site f.listed x)
+  unfolding walk head_enters enters_by
   walk_is (op o w ps r) = refl
-  walk_is nothing = by site.any_run
-    where
-      by : (b : Bool) → the_ok l ≡ (standings.enters_by b None site l (0, 0) >>= λ y. the_ok y.0)
-      by false = refl
-      by true = refl
-  walk_is (named n ts) = by site.any_run
-    where
-      by : (b : Bool) → the_ok l ≡ (standings.enters_by b (Some (call_at site)) site l (0, 0) >>= λ y. the_ok y.0)
-      by false = refl
-      by true = refl
+  walk_is nothing = refl
+  walk_is (named n ts) = refl
 
-  met_is : (x : Tree) → met site l x ≡ stands site x ∷ (enters_at site l x >>> λ y. met_within y.1 y.0 x)
+  met_is : (x : Tree) → met site l x ≡ stands site x ∷ (enters_at site l x >>> λ f. met_within f.site f.listed x)
   unfolding met
   met_is (op o w ps r) = refl
   met_is nothing = ap (λ (xs : List Standing). stands site nothing ∷ xs) (sym (none_met (enters_at site l nothing)))
   met_is (named n ts) = ap (λ (xs : List Standing). stands site (named n ts) ∷ xs) (sym (none_met (enters_at site l (named n ts))))
 
-  module _ (x : Tree) (m : Listed) (inner : Option Where) (is : enters_at site l x ≡ Ok (m, inner)) where
-    pub walk_on : walk site l x ≡ walk_within inner m x
-    walk_on = walk_is x ∙ ap (λ (q : Result (Listed × Option Where) LoadFault). q >>= λ y. walk_within y.1 y.0 x) is
+  module _ (x : Tree) (f : Front) (is : enters_at site l x ≡ Ok f) where
+    pub walk_on : walk site l x ≡ walk_within f.site f.listed x
+    walk_on = walk_is x ∙ ap (λ (q : Result Front LoadFault). q >>= λ f. walk_within f.site f.listed x) is
 
-    pub met_on : met site l x ≡ stands site x ∷ met_within inner m x
-    met_on = met_is x ∙ ap (λ (q : Result (Listed × Option Where) LoadFault). stands site x ∷ (q >>> λ y. met_within y.1 y.0 x)) is
+    pub met_on : met site l x ≡ stands site x ∷ met_within f.site f.listed x
+    met_on = met_is x ∙ ap (λ (q : Result Front LoadFault). stands site x ∷ (q >>> λ f. met_within f.site f.listed x)) is
 
   -- what a term declares itself stops
   pub walk_stops : (x : Tree) (e : LoadFault) → Fails e (enters_at site l x) → Fails e (walk site l x)
   walk_stops x e (inl want) = inl want
-  walk_stops x e (inr fails) =
-      inr (walk_is x ∙ ap (λ (q : Result (Listed × Option Where) LoadFault). q >>= λ y. walk_within y.1 y.0 x) fails)
+  walk_stops x e (inr fails) = inr (walk_is x ∙ ap (λ (q : Result Front LoadFault). q >>= λ f. walk_within f.site f.listed x) fails)
 
 -- ---- what tables load to, their terms declare
 
-pub read_declares : (t : ℕ) (l : Listed) (cs : List (List ℕ)) (trees : List Trees) (m : Listed)
+read_declares : (t : ℕ) (l : Listed) (cs : List (List ℕ)) (trees : List Trees) (m : Listed)
     → ReadTables false t l cs trees m
-    → declare_tables t l trees ≡ Ok m
-unfolding declare_tables
+    → behind_tables false t l trees ≡ Ok m
+unfolding behind_tables
 read_declares t l [] [] m read = ap (λ (k : Listed). Ok k) read
 read_declares t l [] (ts ∷ rest) m read = absurd read
 read_declares t l (c ∷ cs) [] m read = absurd read
 read_declares t l (c ∷ cs) (ts ∷ rest) m (k, reads, read) =
-    ap (λ (r : Result Listed LoadFault). r >>= λ j. declare_tables (suc t) j rest) reads.1 ∙ read_declares (suc t) k cs rest m read
+    ap (λ (r : Result Listed LoadFault). r >>= λ j. behind_tables false (suc t) j rest) reads.1 ∙ read_declares (suc t) k cs rest m read
 
 pub load_declares : (any z : Bool) (gs : Givens) (tables : List (List ℕ)) (trees : List Trees) (m : Listed)
     → ListsTo any z gs tables trees m → set_declares any gs trees ≡ Ok m

@@ -1,12 +1,12 @@
 -- A term whose code may run, of which its pieces were heard: what is known of it then.
-use Rattle.std.proofs.Common.{◌≡◌, ℕ, [], ◌∷◌, cond, Option, None, Some, option_map, refl, unwrap_or, length, ◌<◌, sym, ap, subst, ◌∙◌}
+use Rattle.std.proofs.Common.{◌≡◌, ℕ, true, [], ◌∷◌, cond, Option, None, Some, option_map, refl, unwrap_or, length, ◌<◌, sym, ap, subst, ◌∙◌}
 use Rattle.aml_code.specs.Pieces.{pieces}
 use Rattle.aml_code.specs.Tree.{Tree}
 use Rattle.aml_namespace.specs.Known.{Known}
 use Rattle.aml_load.specs.Declaring.{Listed, term_uses}
-use Rattle.aml_load.specs.Front.{HasBegunAt, IsHeard, head_enters}
+use Rattle.aml_load.specs.Front.{HasBegunAt, IsHeard}
 use Rattle.aml_load.specs.Groups.{AreKnown, uses_of}
-use Rattle.aml_load.specs.Hearing.{Head, Heard, catch_all, head_at, is_block, run, with_more}
+use Rattle.aml_load.specs.Hearing.{Head, Heard, catch_all, head_at, head_enters, is_block, run, with_more}
 use Rattle.aml_load.specs.HearingViews.{AreNumbered, Goes, IsNumbered, IsHeadNumbered, head_view, heard_in, stack_view}
 use Rattle.std.specs.List.{AllByRecursion}
 use Rattle.std.specs.Option.{option_copied}
@@ -62,12 +62,12 @@ module _ (k : Known) (a b : Ears) (s : Site) (level : ℕ) (t : Tree) (begun : H
   pub inside_heard : cond (is_block (option_map (head_view k) b.head)) (tail_of t) None ≡ span_inside t
   inside_heard = ap (λ (h : Option Head). cond (is_block h) (tail_of t) None) head_heard ∙ run_inside w t
 
-  pub heard_front : (o : Opened) → o.tail ≡ tail_of t → IsHeard k s b o t
-  heard_front o tail = record {
+  pub heard_front : (o : Opened) → s.any_run ≡ true → o.tail ≡ tail_of t → IsHeard k s b o t
+  heard_front o runs tail = record {
     uses = uses_heard;
     enters = λ f site.
         (λ i. head_enters (head_heard i) (asked f t) (unwrap_or (tail i) (0, 0)))
         ∙ ap (λ (v : Where). head_enters (head_at v t) (asked f t) (unwrap_or (tail_of t) (0, 0))) (sym site)
-        ∙ run_enters f t;
+        ∙ run_enters f t (ap (λ (v : Where). v.any_run) site ∙ runs);
     inside = ap (λ (x : Option (ℕ × ℕ)). cond (is_block (option_map (head_view k) b.head)) x None) tail ∙ inside_heard;
   }

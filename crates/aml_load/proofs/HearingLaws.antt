@@ -4,17 +4,11 @@ use Rattle.std.proofs.Common.{option_map, Result, Ok, Err, refl, sym, ap, ◌∙
 use Rattle.std.proofs.lemmas.List.{append-nil}
 use Rattle.aml_code.specs.Lawful.{last_label, last_byte, unit_names}
 use Rattle.aml_load.specs.Loading.{Where}
-unfoldable use Rattle.aml_load.specs.Declaring.{declare_inside, declare, declare_all, declare_as}
-use Rattle.aml_load.specs.Declaring.{first_label, body_span, under, place_at, entry_at, lead_at}
 use Rattle.aml_load.specs.Declaring.{method_at, alias_at, external_at, units_at}
-use Rattle.aml_load.specs.Loading.{declares_by, kind_of, plain_entry}
 unfoldable use Rattle.aml_load.specs.Loading.{role_of}
 use Rattle.aml_code.specs.Lawful.{field_names}
 use Rattle.aml_code.specs.declared.rows.Role.{Role}
 use Rattle.aml_code.specs.declared.rows.Role.TheVariants as roles
-use Rattle.aml_names.specs.declared.segments.Seg.{Seg}
-use Rattle.aml_space.specs.declared.faults.SpaceFault.TheVariants as faults
-unfoldable use Rattle.aml_load.specs.Hearing.{enter}
 use Rattle.aml_names.specs.declared.names.Name.{Name}
 use Rattle.aml_code.specs.declared.rows.PartKind.{PartKind}
 use Rattle.aml_code.specs.declared.rows.TailKind.TheVariants as tails
@@ -39,20 +33,28 @@ use Rattle.aml_load.specs.HearerLaws.{after}
 use Rattle.aml_code.specs.Pieces as told
 use Rattle.aml_code.specs.declared.packages.PkgWidth.{PkgWidth}
 use Rattle.aml_code.specs.declared.rows.TailKind.{TailKind}
-unfoldable use Rattle.aml_load.specs.Front.{enters_as, enters_by, head_enters}
 use Rattle.aml_load.specs.Opening.{tail_of}
-unfoldable use Rattle.aml_load.specs.Running.{entered_at}
-use Rattle.aml_load.specs.Running.{Front, object_at, scope_at}
 use Rattle.aml_load.specs.Running as run
-use Rattle.aml_load.specs.Standing.{◌>>>◌, Standing, inside_as}
 use Rattle.aml_load.specs.Runner.{span_inside}
 use Rattle.aml_parse.specs.Running.{has_terms}
+use Rattle.std.proofs.Common.{rules, subst}
+use Rattle.std.specs.Prelude.{IfOk}
+use Rattle.aml_load.specs.Declaring.{first_label, body_span}
+use Rattle.aml_load.specs.Loading.{declares_by, kind_of}
+unfoldable use Rattle.aml_load.specs.Hearing.{flat_by, enters_as, enters_by, head_enters}
+use Rattle.aml_load.specs.Hearing.{enter, behind_terms}
+unfoldable use Rattle.aml_load.specs.Running.{flat_at, entered_at, behind_inside, behind_tree, behind_trees}
+use Rattle.aml_load.specs.Running.{Front, listing, object_at, scope_at}
+use Rattle.aml_load.specs.Runner.{front_at}
 
 -- ---- pieces one after the other
 
 -- pieces that are heard, and others
 heard_on : (does : Bool) (ps qs : List Told) (x y : Heard) → hear_all does ps x ≡ Ok y → hear_all does (ps ++ qs) x ≡ hear_all does qs y
 heard_on does ps qs x y e = after does ps qs x ∙ ap (λ (r : Result Heard LoadFault). r >>= λ y. hear_all does qs y) e
+
+abbrev the_front : Front → Result Front LoadFault
+the_front f = Ok f
 
 abbrev heard : Listed → Option Head → List Around → Heard
 heard l h outer = record { listed = l; term = h; around = outer }
@@ -555,136 +557,8 @@ fields_units does level (field_more u us) l h outer =
     ∙ fields_units does level us m x outer
     ∙ (λ i. Ok (heard (more_more l (field_uses (asker h) u) (fields_uses (asker h) us) i) (Some (units_more u us h i)) (around.units ∷ outer)))
 
--- ---- what a term does
+-- ---- the head behind its parts and its tail
 
--- what the terms inside it declare, if they declare
-abbrev pub inside_of : (Listed → Where → Result Listed LoadFault) → Option Where → Listed → Result Listed LoadFault
-inside_of inside (Some w) l = inside l w
-inside_of inside None l = Ok l
-
--- and which terms stand there
-abbrev pub stood_inside : (Listed → Where → List Standing) → Option Where → Listed → List Standing
-stood_inside inside (Some w) l = inside l w
-stood_inside inside None l = []
-
-abbrev in_tail : Tail → Listed → Where → Result Listed LoadFault
-in_tail t l w = declare_inside w l t
-
-abbrev entered : Result (Listed × Option Where) LoadFault → Tail → Result Listed LoadFault
-entered r t = r >>= λ y. inside_of (in_tail t) y.1 y.0
-
-abbrev on_again : Result Listed LoadFault → Where → List Around → Result Heard LoadFault
-on_again r w outer = r >>= λ m. Ok (heard m None (around.terms w ∷ outer))
-
--- a tail without terms
-flat_tail : (t : Tail) (r : Result (Listed × Option Where) LoadFault) (ks : List PartKind) (w : Where) (outer : List Around)
-    → ((v : Where) (m : Listed) → declare_inside v m t ≡ Ok m)
-    → (((r >>= λ y. Ok (heard y.0 None (around.head ks ∷ around.terms w ∷ outer))) >>= λ y. Ok (closed y)) >>= λ y. hear_all true [] y)
-    ≡ on_again (entered r t) w outer
-flat_tail t (Err e) ks w outer flat = refl
-flat_tail t (Ok y) ks w outer flat = by y.1
-  where
-    by : (o : Option Where) → Ok (heard y.0 None (around.terms w ∷ outer)) ≡ on_again (inside_of (in_tail t) o y.0) w outer
-    by None = refl
-    by (Some v) = ap (λ (r : Result Listed LoadFault). on_again r w outer) (sym (flat v y.0))
-
--- behind the terms inside a term
-behind_inside : (r : Result Listed LoadFault) (level : ℕ) (b : Around) (ks : List PartKind) (w : Where) (outer : List Around)
-    → ((r >>= λ m. Ok (heard m None (b ∷ around.head ks ∷ around.terms w ∷ outer))) >>= λ y. hear_all true (end_of_list tails.Terms level ∷ []) y)
-    ≡ on_again r w outer
-behind_inside (Ok m) level b ks w outer = refl
-behind_inside (Err e) level b ks w outer = refl
-
-same_entered : (l m : Listed) (h : Head) (t : Tail) (w : Where) (outer : List Around) → l ≡ m
-    → on_again (entered (enter h l (body_span t)) t) w outer ≡ on_again (entered (enter h m (body_span t)) t) w outer
-same_entered l m h t w outer e = ap (λ (x : Listed). on_again (entered (enter h x (body_span t)) t) w outer) e
-
--- ---- a term by what its head does
-
-module _ (inside : Listed → Where → Result Listed LoadFault) where
-  abbrev then_inside : Result (Listed × Option Where) LoadFault → Result Listed LoadFault
-  then_inside r = r >>= λ y. inside_of inside y.1 y.0
-
-  two_steps : (r : Result (List Seg) LoadFault) (e : List Seg → Result Listed LoadFault) (site : List Seg → Where)
-      → then_inside (r >>= λ p. e p >>= λ m. Ok (m, Some (site p))) ≡ (r >>= λ p. e p >>= λ m. inside m (site p))
-  two_steps (Err x) e site = refl
-  two_steps (Ok p) e site = by (e p)
-    where
-      by : (r : Result Listed LoadFault) → then_inside (r >>= λ m. Ok (m, Some (site p))) ≡ (r >>= λ m. inside m (site p))
-      by (Ok m) = refl
-      by (Err x) = refl
-
-  one_step : (r : Result (List Seg) LoadFault) (l : Listed) (site : List Seg → Where)
-      → then_inside (r >>= λ p. Ok (l, Some (site p))) ≡ (r >>= λ p. inside l (site p))
-  one_step (Err x) l site = refl
-  one_step (Ok p) l site = refl
-
-  no_step : (r : Result Listed LoadFault) → then_inside (r >>= λ m. Ok (m, None)) ≡ r
-  no_step (Err x) = refl
-  no_step (Ok m) = refl
-
-  enter_is : (role : Role) (h : Head) (ps : Parts) (t : Tail) (l : Listed)
-      → h.source ≡ first_label ps → h.last ≡ last_label None ps → h.byte ≡ last_byte None ps → h.units ≡ field_names t
-      → then_inside (around.enter_as role h l (body_span t)) ≡ declare_as role h.site l ps t inside
-  unfolding around.enter_as around.enter_kind declare_as
-  enter_is (roles.Declares o) h ps t l source last flags units =
-      two_steps (place_at h.site h.last) (λ p. entry_at h.site l p (plain_entry h.site l.entries (kind_of o) p)) (λ p. under h.site p)
-      ∙ ap (λ n. place_at h.site n >>= λ p. entry_at h.site l p (plain_entry h.site l.entries (kind_of o) p) >>= λ m. inside m (under h.site p)) last
-  enter_is roles.Scope h ps t l source last flags units =
-      one_step (lead_at h.site l.entries h.last (λ p. faults.ScopeMissing p)) l (λ p. under h.site p)
-      ∙ ap (λ n. lead_at h.site l.entries n (λ p. faults.ScopeMissing p) >>= λ p. inside l (under h.site p)) last
-  enter_is roles.Guard h ps t l source last flags units = refl
-  enter_is roles.Other h ps t l source last flags units = refl
-  enter_is roles.Method h ps t l source last flags units =
-      no_step (method_at h.site l h.last (unwrap_or h.byte 0) (body_span t))
-      ∙ (λ i. method_at h.site l (last i) (unwrap_or (flags i) 0) (body_span t))
-  enter_is roles.Alias h ps t l source last flags units =
-      no_step (alias_at h.site l h.source h.last) ∙ (λ i. alias_at h.site l (source i) (last i))
-  enter_is roles.External h ps t l source last flags units =
-      no_step (external_at h.site l h.last (unwrap_or h.byte 0)) ∙ (λ i. external_at h.site l (last i) (unwrap_or (flags i) 0))
-  enter_is roles.Fields h ps t l source last flags units =
-      no_step (units_at h.site l h.units) ∙ (λ i. units_at h.site l (units i))
-
--- and which terms stand inside it
-module _ (inside : Listed → Where → List Standing) where
-  abbrev then_stood : Result (Listed × Option Where) LoadFault → List Standing
-  then_stood r = r >>> λ y. stood_inside inside y.1 y.0
-
-  none_stood : (r : Result Listed LoadFault) → then_stood (r >>= λ m. Ok (m, None)) ≡ []
-  none_stood (Err x) = refl
-  none_stood (Ok m) = refl
-
-  pub enter_stood : (role : Role) (h : Head) (ps : Parts) (l : Listed) (span : ℕ × ℕ) → h.last ≡ last_label None ps
-      → then_stood (around.enter_as role h l span) ≡ inside_as role h.site l ps inside
-  unfolding around.enter_as around.enter_kind inside_as
-  enter_stood (roles.Declares o) h ps l span last = by (place_at h.site h.last)
-      ∙ ap (λ n. place_at h.site n >>> λ p. entry_at h.site l p (plain_entry h.site l.entries (kind_of o) p) >>> λ m. inside m (under h.site p)) last
-    where
-      declared : (p : List Seg) (r : Result Listed LoadFault)
-          → then_stood (r >>= λ m. Ok (m, Some (under h.site p))) ≡ (r >>> λ m. inside m (under h.site p))
-      declared p (Ok m) = refl
-      declared p (Err x) = refl
-
-      by : (r : Result (List Seg) LoadFault)
-          → then_stood (r >>= λ p. entry_at h.site l p (plain_entry h.site l.entries (kind_of o) p) >>= λ m. Ok (m, Some (under h.site p)))
-          ≡ (r >>> λ p. entry_at h.site l p (plain_entry h.site l.entries (kind_of o) p) >>> λ m. inside m (under h.site p))
-      by (Ok p) = declared p (entry_at h.site l p (plain_entry h.site l.entries (kind_of o) p))
-      by (Err x) = refl
-  enter_stood roles.Scope h ps l span last = by (lead_at h.site l.entries h.last (λ p. faults.ScopeMissing p))
-      ∙ ap (λ n. lead_at h.site l.entries n (λ p. faults.ScopeMissing p) >>> λ p. inside l (under h.site p)) last
-    where
-      by : (r : Result (List Seg) LoadFault)
-          → then_stood (r >>= λ p. Ok (l, Some (under h.site p))) ≡ (r >>> λ p. inside l (under h.site p))
-      by (Ok p) = refl
-      by (Err x) = refl
-  enter_stood roles.Guard h ps l span last = refl
-  enter_stood roles.Other h ps l span last = refl
-  enter_stood roles.Method h ps l span last = none_stood (method_at h.site l h.last (unwrap_or h.byte 0) span)
-  enter_stood roles.Alias h ps l span last = none_stood (alias_at h.site l h.source h.last)
-  enter_stood roles.External h ps l span last = none_stood (external_at h.site l h.last (unwrap_or h.byte 0))
-  enter_stood roles.Fields h ps l span last = none_stood (units_at h.site l h.units)
-
--- the head behind its parts and its tail
 abbrev whole_head : Where → Option Row → Parts → Tail → Head
 whole_head w row ps t = record {
   site = w;
@@ -710,95 +584,221 @@ head_met w row ps (fields us) = ap (with_units us) (head_is ps (around.head_of w
 pub site_met : (w : Where) (row : Option Row) (ps : Parts) (t : Tail) → (with_tail t (behind_head ps (around.head_of w row))).site ≡ w
 site_met w row ps t = ap (λ (h : Head). h.site) (head_met w row ps t)
 
--- a term of an opcode, by its head
-module _ (w : Where) (o : ℕ) (ps : Parts) (t : Tail) (l : Listed) where
-  abbrev pub by_head : Result (Listed × Option Where) LoadFault
-  by_head = enter (with_tail t (behind_head ps (around.head_of w (row_of o)))) l (body_span t)
-
-  pub enter_met : (inside : Listed → Where → Result Listed LoadFault)
-      → (by_head >>= λ y. inside_of inside y.1 y.0) ≡ declare_as (role_of o) w l ps t inside
-  unfolding enter role_of
-  enter_met inside =
-      ap (λ (h : Head). then_inside inside (enter h l (body_span t))) (head_met w (row_of o) ps t)
-      ∙ enter_is inside (role_of o) (whole_head w (row_of o) ps t) ps t l (source_is ps) refl refl refl
-
-  pub stood_met : (inside : Listed → Where → List Standing)
-      → (by_head >>> λ y. stood_inside inside y.1 y.0) ≡ inside_as (role_of o) w l ps inside
-  unfolding enter role_of
-  stood_met inside =
-      ap (λ (h : Head). then_stood inside (enter h l (body_span t))) (head_met w (row_of o) ps t)
-      ∙ enter_stood inside (role_of o) (whole_head w (row_of o) ps t) ps l (body_span t) refl
-
 asker_behind : (ps : Parts) (h : Head) → asker (behind_head ps h) ≡ asker h
 asker_behind no_parts h = refl
 asker_behind (part_more p ps) h = asker_behind ps (around.with_part p h) ∙ same_asker p h
 
-terms_tail : (level : ℕ) (ts : Trees) (ks : List PartKind) (w : Where) (outer : List Around) (r : Result (Listed × Option Where) LoadFault)
-    → ((v : Where) (m : Listed) → hear_all true (line_pieces (deeper level) ts) (heard m None (around.terms v ∷ around.head ks ∷ around.terms w ∷ outer))
-    ≡ on_again (declare_all v m ts) v (around.head ks ∷ around.terms w ∷ outer))
-    → ((r >>= λ y. Ok (heard y.0 None (around.entered_by y.1 ∷ around.head ks ∷ around.terms w ∷ outer)))
-    >>= λ y. hear_all true (line_pieces (deeper level) ts ++ end_of_list tails.Terms level ∷ []) y)
-    ≡ on_again (entered r (terms ts)) w outer
-unfolding declare_inside
-terms_tail level ts ks w outer (Err e) law = refl
-terms_tail level ts ks w outer (Ok y) law = by y.1
-  where
-    by : (o : Option Where)
-        → hear_all true (line_pieces (deeper level) ts ++ end_of_list tails.Terms level ∷ []) (heard y.0 None (around.entered_by o ∷ around.head ks ∷ around.terms w ∷ outer))
-        ≡ on_again (inside_of (in_tail (terms ts)) o y.0) w outer
-    by None =
-        let x = heard y.0 None (around.nowhere ∷ around.head ks ∷ around.terms w ∷ outer) in
-        heard_on true (line_pieces (deeper level) ts) (end_of_list tails.Terms level ∷ []) x x
-        (lines_nowhere true y.0 None (deeper level) ts (around.head ks ∷ around.terms w ∷ outer))
-    by (Some v) =
-        let x = heard y.0 None (around.terms v ∷ around.head ks ∷ around.terms w ∷ outer) in
-        after true (line_pieces (deeper level) ts) (end_of_list tails.Terms level ∷ []) x
-        ∙ ap (λ (r : Result Heard LoadFault). r >>= λ z. hear_all true (end_of_list tails.Terms level ∷ []) z) (law v y.0)
-        ∙ behind_inside (declare_all v y.0 ts) level (around.terms v) ks w outer
+-- ---- what it does by its head
 
-more_lines : (level : ℕ) (ts : Trees) (w : Where) (outer : List Around) (r : Result Listed LoadFault)
-    → ((m : Listed) → hear_all true (line_pieces level ts) (heard m None (around.terms w ∷ outer)) ≡ on_again (declare_all w m ts) w outer)
-    → (on_again r w outer >>= λ y. hear_all true (end_of_line ∷ line_pieces level ts) y) ≡ on_again (r >>= λ k. declare_all w k ts) w outer
-more_lines level ts w outer (Ok m) law = law m
-more_lines level ts w outer (Err e) law = refl
+pub tail_span : (o : ℕ) (w : Option PkgWidth) (ps : Parts) (t : Tail) → unwrap_or (tail_of (op o w ps t)) (0, 0) ≡ body_span t
+tail_span o w ps (body start len) = refl
+tail_span o w ps empty = refl
+tail_span o w ps (terms ts) = refl
+tail_span o w ps (bytes xs) = refl
+tail_span o w ps (elements ts) = refl
+tail_span o w ps (fields us) = refl
+
+-- an opcode is no call
+shaped : (k : Option TailKind) (h : Head) (f : Front) (span : ℕ × ℕ) → enters_by (around.shape_by k) h f span ≡ enters_as h.role h f span
+unfolding enters_by
+shaped (Some tails.Terms) h f span = refl
+shaped (Some tails.Bytes) h f span = refl
+shaped (Some tails.Elements) h f span = refl
+shaped (Some tails.Fields) h f span = refl
+shaped (Some tails.Body) h f span = refl
+shaped None h f span = refl
+
+shape_of_row : (row : Option Row) (h : Head) (f : Front) (span : ℕ × ℕ)
+    → enters_by (unwrap_or (option_map (λ (r : Row). around.shape_by r.tail) row) shapes.Flat) h f span ≡ enters_as h.role h f span
+unfolding enters_by
+shape_of_row None h f span = refl
+shape_of_row (Some r) h f span = shaped r.tail h f span
+
+abbrev the_span : Option (ℕ × ℕ) → Option (ℕ × ℕ)
+the_span x = x
+
+module _ (h : Head) (ps : Parts) (t : Tail) (source : h.source ≡ first_label ps) (last : h.last ≡ last_label None ps)
+    (flags : h.byte ≡ last_byte None ps) (units : h.units ≡ field_names t) where
+  flat_is : (role : Role) (site : Where) (l : Listed) → flat_by role h site l (body_span t) ≡ flat_at role site l ps t
+  unfolding flat_by flat_at
+  flat_is roles.Method site l = λ i. method_at site l (last i) (unwrap_or (flags i) 0) (body_span t)
+  flat_is roles.Alias site l = λ i. alias_at site l (source i) (last i)
+  flat_is roles.External site l = λ i. external_at site l (last i) (unwrap_or (flags i) 0)
+  flat_is roles.Fields site l = λ i. units_at site l (units i)
+  flat_is _ site l = refl
+
+  run_role : (role : Role) (f : Front) → enters_as role h f (body_span t) ≡ run.enter_as role f ps t
+  unfolding enters_as run.enter_as
+  run_role (roles.Declares o) f = ap (λ n. object_at f n (kind_of o)) last
+  run_role roles.Scope f = ap (scope_at f) last
+  run_role roles.Guard f = refl
+  run_role roles.Other f = refl
+  run_role role f = ap (λ (r : Result Listed LoadFault). listing f r) (flat_is role f.site f.listed)
+
+pub run_entered : (g : Front) (o : ℕ) (w : Option PkgWidth) (ps : Parts) (t : Tail)
+    → head_enters (head_at g.site (op o w ps t)) g (unwrap_or (tail_of (op o w ps t)) (0, 0)) ≡ run.enter_as (role_of o) g ps t
+unfolding head_enters enters_by role_of
+run_entered g o w ps t =
+    let row = row_of o in
+    let met = head_met g.site row ps t in
+    let h = with_tail t (behind_head ps (around.head_of g.site row)) in
+    ap (λ (s : ℕ × ℕ). enters_by h.shape h g s) (tail_span o w ps t)
+    ∙ ap (λ (s : Shape). enters_by s h g (body_span t)) (ap (λ (x : Head). x.shape) met)
+    ∙ shape_of_row row h g (body_span t)
+    ∙ ap (λ (r : Role). enters_as r h g (body_span t)) (ap (λ (x : Head). x.role) met)
+    ∙ run_role h ps t (ap (λ (x : Head). x.source) met ∙ source_is ps) (ap (λ (x : Head). x.last) met)
+    (ap (λ (x : Head). x.byte) met) (ap (λ (x : Head). x.units) met) (role_of o) g
+
+-- a term of an opcode, by its head
+enter_met : (w : Where) (o : ℕ) (width : Option PkgWidth) (ps : Parts) (t : Tail) (l : Listed)
+    → enter (with_tail t (behind_head ps (around.head_of w (row_of o)))) l (body_span t) ≡ run.enter_as (role_of o) (front_at w l) ps t
+enter_met w o width ps t l =
+    let h = with_tail t (behind_head ps (around.head_of w (row_of o))) in
+    ap (λ (v : Where). head_enters (Some h) (front_at v l) (body_span t)) (site_met w (row_of o) ps t)
+    ∙ ap (λ (s : ℕ × ℕ). head_enters (Some h) (front_at w l) s) (sym (tail_span o width ps t))
+    ∙ run_entered (front_at w l) o width ps t
+
+-- ---- what its terms do, where the code outside methods may not run
+
+then_ok : {A B : Type 0} (P : B → Type 0) (r : Result A LoadFault) (k : A → Result B LoadFault)
+    → ((x : A) → IfOk (k x) P) → IfOk (r >>= k) P
+then_ok P (Ok x) k h = h x
+then_ok P (Err e) k h = tt
+
+-- inside a term its code may run as it may there
+keeps_runs : (role : Role) (h : Head) (f : Front) (span : ℕ × ℕ) → IfOk (enters_as role h f span) (λ g. g.site.any_run ≡ f.site.any_run)
+unfolding enters_as object_at scope_at
+keeps_runs roles.Guard h f span = refl
+keeps_runs roles.Other h f span = refl
+keeps_runs _ h f span = search (rules, then_ok)
+
+enter_runs : (h : Head) (l : Listed) (span : ℕ × ℕ) (g : Front) → enter h l span ≡ Ok g → g.site.any_run ≡ h.site.any_run
+unfolding head_enters enters_by
+enter_runs h l span g is = subst (λ (r : Result Front LoadFault). IfOk r (λ g. g.site.any_run ≡ h.site.any_run)) is (by h.shape)
+  where
+    by : (k : Shape) → IfOk (enters_by k h (front_at h.site l) span) (λ g. g.site.any_run ≡ h.site.any_run)
+    by shapes.Call = refl
+    by shapes.Flat = keeps_runs h.role h (front_at h.site l) span
+    by shapes.Block = keeps_runs h.role h (front_at h.site l) span
+
+abbrev on_again : Result Front LoadFault → Where → List Around → Result Heard LoadFault
+on_again r w outer = behind_terms w outer r
+
+-- what stands behind the terms inside a term
+abbrev ends : Where → Result Front LoadFault → Tail → Result Front LoadFault
+ends w r t = r >>= λ i. (behind_inside i t >>= λ e. Ok (front_at w e.listed))
+
+-- a tail without terms
+flat_tail : (t : Tail) (r : Result Front LoadFault) (ks : List PartKind) (w : Where) (outer : List Around)
+    → ((f : Front) → behind_inside f t ≡ Ok f)
+    → (((r >>= λ f. Ok (heard f.listed None (around.head ks ∷ around.terms w ∷ outer))) >>= λ y. Ok (closed y)) >>= λ y. hear_all true [] y)
+    ≡ on_again (ends w r t) w outer
+flat_tail t (Err e) ks w outer flat = refl
+flat_tail t (Ok f) ks w outer flat =
+    ap (λ (r : Result Front LoadFault). on_again (r >>= λ e. Ok (front_at w e.listed)) w outer) (sym (flat f))
+
+-- behind the terms inside a term
+behind_list : (r : Result Front LoadFault) (level : ℕ) (b : Around) (ks : List PartKind) (w : Where) (outer : List Around)
+    → ((r >>= λ e. Ok (heard e.listed None (b ∷ around.head ks ∷ around.terms w ∷ outer))) >>= λ y. hear_all true (end_of_list tails.Terms level ∷ []) y)
+    ≡ on_again (r >>= λ e. Ok (front_at w e.listed)) w outer
+behind_list (Ok e) level b ks w outer = refl
+behind_list (Err e) level b ks w outer = refl
+
+same_entered : (l m : Listed) (h : Head) (t : Tail) (w : Where) (outer : List Around) → l ≡ m
+    → on_again (ends w (enter h l (body_span t)) t) w outer ≡ on_again (ends w (enter h m (body_span t)) t) w outer
+same_entered l m h t w outer e = ap (λ (x : Listed). on_again (ends w (enter h x (body_span t)) t) w outer) e
+
+terms_tail : (level : ℕ) (ts : Trees) (ks : List PartKind) (w : Where) (outer : List Around) (r : Result Front LoadFault)
+    → ((f : Front) → r ≡ Ok f
+    → hear_all true (line_pieces (deeper level) ts) (heard f.listed None (around.terms f.site ∷ around.head ks ∷ around.terms w ∷ outer))
+    ≡ on_again (behind_trees f ts) f.site (around.head ks ∷ around.terms w ∷ outer))
+    → ((r >>= λ f. Ok (heard f.listed None (around.terms f.site ∷ around.head ks ∷ around.terms w ∷ outer)))
+    >>= λ y. hear_all true (line_pieces (deeper level) ts ++ end_of_list tails.Terms level ∷ []) y)
+    ≡ on_again (ends w r (terms ts)) w outer
+unfolding behind_inside
+terms_tail level ts ks w outer (Err e) law = refl
+terms_tail level ts ks w outer (Ok f) law =
+    let x = heard f.listed None (around.terms f.site ∷ around.head ks ∷ around.terms w ∷ outer) in
+    after true (line_pieces (deeper level) ts) (end_of_list tails.Terms level ∷ []) x
+    ∙ ap (λ (r : Result Heard LoadFault). r >>= λ z. hear_all true (end_of_list tails.Terms level ∷ []) z) (law f refl)
+    ∙ behind_list (behind_trees f ts) level (around.terms f.site) ks w outer
+
+-- behind a term stands what stood in front of it, but for what is listed
+pub placed : (f : Front) (x : Tree) → behind_tree f x ≡ (behind_tree f x >>= λ g. Ok (front_at f.site g.listed))
+unfolding behind_tree entered_at
+placed f x = by x
+  where
+    alone : (any : Bool) (x : Tree) → the_front (cond any (run.asked f x) f) ≡ Ok (front_at f.site (cond any (run.asked f x) f).listed)
+    alone true x = refl
+    alone false x = refl
+
+    ends : (r : Result Front LoadFault) → (r >>= λ e. Ok (record f { listed = e.listed }))
+        ≡ ((r >>= λ e. Ok (record f { listed = e.listed })) >>= λ g. Ok (front_at f.site g.listed))
+    ends (Ok e) = refl
+    ends (Err e) = refl
+
+    inner : (t : Tail) (q : Result Front LoadFault) → (q >>= λ i. (behind_inside i t >>= λ e. Ok (record f { listed = e.listed })))
+        ≡ ((q >>= λ i. (behind_inside i t >>= λ e. Ok (record f { listed = e.listed }))) >>= λ g. Ok (front_at f.site g.listed))
+    inner t (Ok i) = ends (behind_inside i t)
+    inner t (Err e) = refl
+
+    by : (x : Tree) → behind_tree f x ≡ (behind_tree f x >>= λ g. Ok (front_at f.site g.listed))
+    by nothing = alone f.site.any_run nothing
+    by (named n ts) = alone f.site.any_run (named n ts)
+    by (op o w ps t) = inner t (run.enter_as (role_of o) (run.asked f (op o w ps t)) ps t)
+
+more_lines : (level : ℕ) (ts : Trees) (w : Where) (outer : List Around) (r : Result Front LoadFault)
+    → r ≡ (r >>= λ g. Ok (front_at w g.listed))
+    → ((m : Listed) → hear_all true (line_pieces level ts) (heard m None (around.terms w ∷ outer)) ≡ on_again (behind_trees (front_at w m) ts) w outer)
+    → (on_again r w outer >>= λ y. hear_all true (end_of_line ∷ line_pieces level ts) y) ≡ on_again (r >>= λ g. behind_trees g ts) w outer
+more_lines level ts w outer r stays law = by r ∙ ap (λ (q : Result Front LoadFault). on_again (q >>= λ g. behind_trees g ts) w outer) (sym stays)
+  where
+    by : (r : Result Front LoadFault) → (on_again r w outer >>= λ y. hear_all true (end_of_line ∷ line_pieces level ts) y)
+        ≡ on_again ((r >>= λ g. Ok (front_at w g.listed)) >>= λ g. behind_trees g ts) w outer
+    by (Ok g) = law g.listed
+    by (Err e) = refl
 
 mutual
-  unfolding declare_inside declare declare_all role_of
+  unfolding behind_inside behind_tree behind_trees entered_at
 
   head_tail : (level : ℕ) (t : Tail) (l : Listed) (h : Head) (ks : List PartKind) (w : Where) (outer : List Around)
-      → hear_all true (tail_pieces level t) (heard l (Some h) (around.head ks ∷ around.terms w ∷ outer))
-      ≡ on_again (entered (enter (with_tail t h) (with_more l (tail_uses (asker h) t)) (body_span t)) t) w outer
-  head_tail level empty l h ks w outer =
-      flat_tail empty (enter h l (0, 0)) ks w outer (λ v m. refl) ∙ same_entered l (with_more l []) h empty w outer (sym (more_none l))
-  head_tail level (bytes xs) l h ks w outer =
-      flat_tail (bytes xs) (enter h l (0, 0)) ks w outer (λ v m. refl) ∙ same_entered l (with_more l []) h (bytes xs) w outer (sym (more_none l))
-  head_tail level (body start len) l h ks w outer =
-      flat_tail (body start len) (enter h l (start, len)) ks w outer (λ v m. refl)
+      → h.site.any_run ≡ false → hear_all true (tail_pieces level t) (heard l (Some h) (around.head ks ∷ around.terms w ∷ outer))
+      ≡ on_again (ends w (enter (with_tail t h) (with_more l (tail_uses (asker h) t)) (body_span t)) t) w outer
+  head_tail level empty l h ks w outer runs =
+      flat_tail empty (enter h l (0, 0)) ks w outer (λ f. refl) ∙ same_entered l (with_more l []) h empty w outer (sym (more_none l))
+  head_tail level (bytes xs) l h ks w outer runs =
+      flat_tail (bytes xs) (enter h l (0, 0)) ks w outer (λ f. refl) ∙ same_entered l (with_more l []) h (bytes xs) w outer (sym (more_none l))
+  head_tail level (body start len) l h ks w outer runs =
+      flat_tail (body start len) (enter h l (start, len)) ks w outer (λ f. refl)
       ∙ same_entered l (with_more l []) h (body start len) w outer (sym (more_none l))
-  head_tail level (elements ts) l h ks w outer =
+  head_tail level (elements ts) l h ks w outer runs =
       let front = around.elements ∷ around.head ks ∷ around.terms w ∷ outer in
       let m = with_more l (all_uses (asker h) false ts) in
       heard_on true (items level ts) (end_of_list tails.Elements level ∷ []) (heard l (Some h) front) (heard m (Some h) front)
       (items_asked true h level ts l around.elements false (around.head ks ∷ around.terms w ∷ outer) refl (λ x. refl))
-      ∙ flat_tail (elements ts) (enter h m (0, 0)) ks w outer (λ v m. refl)
-  head_tail level (fields us) l h ks w outer =
+      ∙ flat_tail (elements ts) (enter h m (0, 0)) ks w outer (λ f. refl)
+  head_tail level (fields us) l h ks w outer runs =
       let front = around.units ∷ around.head ks ∷ around.terms w ∷ outer in
       let m = with_more l (fields_uses (asker h) us) in
       heard_on true (fields_pieces (deeper level) us) (end_of_list tails.Fields level ∷ []) (heard l (Some h) front) (heard m (Some (with_units us h)) front)
       (fields_units true (deeper level) us l h (around.head ks ∷ around.terms w ∷ outer))
-      ∙ flat_tail (fields us) (enter (with_units us h) m (0, 0)) ks w outer (λ v m. refl)
-  head_tail level (terms ts) l h ks w outer =
-      terms_tail level ts ks w outer (enter h l (0, 0)) (λ v m. lines_listed (deeper level) ts m v (around.head ks ∷ around.terms w ∷ outer))
+      ∙ flat_tail (fields us) (enter (with_units us h) m (0, 0)) ks w outer (λ f. refl)
+  head_tail level (terms ts) l h ks w outer runs =
+      terms_tail level ts ks w outer (enter h l (0, 0)) (λ f is.
+      lines_listed (deeper level) ts f.listed f.site (around.head ks ∷ around.terms w ∷ outer) (enter_runs h l (0, 0) f is ∙ runs))
       ∙ same_entered l (with_more l []) h (terms ts) w outer (sym (more_none l))
 
   -- a term of a list
-  listed : (level : ℕ) (t : Tree) (l : Listed) (w : Where) (outer : List Around)
-      → hear_all true (pieces level t) (heard l None (around.terms w ∷ outer)) ≡ on_again (declare w l t) w outer
-  listed level nothing l w outer = refl
-  listed level (named n ts) l w outer =
+  listed : (level : ℕ) (t : Tree) (l : Listed) (w : Where) (outer : List Around) → w.any_run ≡ false
+      → hear_all true (pieces level t) (heard l None (around.terms w ∷ outer)) ≡ on_again (behind_tree (front_at w l) t) w outer
+  listed level nothing l w outer runs =
+      ap (λ (b : Bool). on_again (the_front (cond b (run.asked (front_at w l) nothing) (front_at w l))) w outer) (sym runs)
+  listed level (named n ts) l w outer runs =
       let x = heard l None (around.nowhere ∷ around.terms w ∷ outer) in
+      let f = front_at w l in
       heard_on true (items level ts) (end_of_call (tree_count ts) ∷ []) x x (items_nowhere true l None level ts (around.terms w ∷ outer))
-  listed level (op o width ps t) l w outer =
+      ∙ ap (λ (b : Bool). on_again (the_front (cond b (run.asked f (named n ts)) f)) w outer) (sym runs)
+  listed level (op o width ps t) l w outer runs =
       let row = row_of o in
       let h = around.head_of w row in
       let ks = kinds_in o in
@@ -809,20 +809,20 @@ mutual
       (heard l (Some h) (around.head ks ∷ around.terms w ∷ outer))
       (heard (with_more l us) (Some behind) (around.head (behind_parts ps ks) ∷ around.terms w ∷ outer))
       (head_parts true level ps l h ks (around.terms w ∷ outer))
-      ∙ head_tail level t (with_more l us) behind (behind_parts ps ks) w outer
-      ∙ ap (λ (ask : Name → ℕ → Use). on_again (entered (enter (with_tail t behind) (with_more (with_more l us) (tail_uses ask t)) (body_span t)) t) w outer) (asker_behind ps h)
+      ∙ head_tail level t (with_more l us) behind (behind_parts ps ks) w outer (ap (λ (v : Where). v.any_run) (site_met w row ps empty) ∙ runs)
+      ∙ ap (λ (ask : Name → ℕ → Use). on_again (ends w (enter (with_tail t behind) (with_more (with_more l us) (tail_uses ask t)) (body_span t)) t) w outer) (asker_behind ps h)
       ∙ same_entered (with_more (with_more l us) (tail_uses (asker h) t)) (with_more l all) (with_tail t behind) t w outer (more_more l us (tail_uses (asker h) t))
-      ∙ ap (λ (r : Result Listed LoadFault). on_again r w outer) (enter_met w o ps t (with_more l all) (in_tail t))
+      ∙ ap (λ (r : Result Front LoadFault). on_again (ends w r t) w outer) (enter_met w o width ps t (with_more l all))
 
   -- terms of a list
-  pub lines_listed : (level : ℕ) (ts : Trees) (l : Listed) (w : Where) (outer : List Around)
-      → hear_all true (line_pieces level ts) (heard l None (around.terms w ∷ outer)) ≡ on_again (declare_all w l ts) w outer
-  lines_listed level no_trees l w outer = refl
-  lines_listed level (tree_more t ts) l w outer =
+  pub lines_listed : (level : ℕ) (ts : Trees) (l : Listed) (w : Where) (outer : List Around) → w.any_run ≡ false
+      → hear_all true (line_pieces level ts) (heard l None (around.terms w ∷ outer)) ≡ on_again (behind_trees (front_at w l) ts) w outer
+  lines_listed level no_trees l w outer runs = refl
+  lines_listed level (tree_more t ts) l w outer runs =
       let x = heard l None (around.terms w ∷ outer) in
       after true (pieces level t) (end_of_line ∷ line_pieces level ts) x
-      ∙ ap (λ (r : Result Heard LoadFault). r >>= λ y. hear_all true (end_of_line ∷ line_pieces level ts) y) (listed level t l w outer)
-      ∙ more_lines level ts w outer (declare w l t) (λ m. lines_listed level ts m w outer)
+      ∙ ap (λ (r : Result Heard LoadFault). r >>= λ y. hear_all true (end_of_line ∷ line_pieces level ts) y) (listed level t l w outer runs)
+      ∙ more_lines level ts w outer (behind_tree (front_at w l) t) (placed (front_at w l) t) (λ m. lines_listed level ts m w outer runs)
 
 -- ---- a term whose code may run
 
@@ -921,92 +921,12 @@ run_caught level t l w outer =
 
 -- ---- what it does by its head
 
-pub tail_span : (o : ℕ) (w : Option PkgWidth) (ps : Parts) (t : Tail) → unwrap_or (tail_of (op o w ps t)) (0, 0) ≡ body_span t
-tail_span o w ps (body start len) = refl
-tail_span o w ps empty = refl
-tail_span o w ps (terms ts) = refl
-tail_span o w ps (bytes xs) = refl
-tail_span o w ps (elements ts) = refl
-tail_span o w ps (fields us) = refl
-
--- an opcode is no call
-shaped : (k : Option TailKind) (h : Head) (f : Front) (span : ℕ × ℕ) → enters_by (around.shape_by k) h f span ≡ enters_as h.role h f span
-unfolding enters_by
-shaped (Some tails.Terms) h f span = refl
-shaped (Some tails.Bytes) h f span = refl
-shaped (Some tails.Elements) h f span = refl
-shaped (Some tails.Fields) h f span = refl
-shaped (Some tails.Body) h f span = refl
-shaped None h f span = refl
-
-shape_of_row : (row : Option Row) (h : Head) (f : Front) (span : ℕ × ℕ)
-    → enters_by (unwrap_or (option_map (λ (r : Row). around.shape_by r.tail) row) shapes.Flat) h f span ≡ enters_as h.role h f span
-unfolding enters_by
-shape_of_row None h f span = refl
-shape_of_row (Some r) h f span = shaped r.tail h f span
-
-abbrev no_site : Option Where
-no_site = None
-
-abbrev with_site : Result Listed LoadFault → Result (Listed × Option Where) LoadFault
-with_site r = r >>= λ m. Ok (m, no_site)
-
-abbrev the_span : Option (ℕ × ℕ) → Option (ℕ × ℕ)
-the_span x = x
-
-two_more : (f : Front) (r : Result Listed LoadFault)
-    → (with_site r >>= λ m. Ok (record f { listed = m.0 })) ≡ (r >>= λ m. Ok (record f { listed = m }))
-two_more f (Ok m) = refl
-two_more f (Err e) = refl
-
-run_role : (role : Role) (h : Head) (f : Front) (ps : Parts) (t : Tail) → h.site ≡ f.site → h.source ≡ first_label ps
-    → h.last ≡ last_label None ps → h.byte ≡ last_byte None ps → h.units ≡ field_names t
-    → enters_as role h f (body_span t) ≡ run.enter_as role f ps t
-unfolding enters_as run.enter_as around.enter_as declare_as
-run_role (roles.Declares o) h f ps t site source last flags units = ap (λ n. object_at f n (kind_of o)) last
-run_role roles.Scope h f ps t site source last flags units = ap (scope_at f) last
-run_role roles.Guard h f ps t site source last flags units = refl
-run_role roles.Other h f ps t site source last flags units = refl
-run_role roles.Method h f ps t site source last flags units =
-    two_more f (method_at h.site f.listed h.last (unwrap_or h.byte 0) (body_span t))
-    ∙ (λ i. method_at (site i) f.listed (last i) (unwrap_or (flags i) 0) (body_span t) >>= λ m. Ok (record f { listed = m }))
-run_role roles.Alias h f ps t site source last flags units =
-    two_more f (alias_at h.site f.listed h.source h.last)
-    ∙ (λ i. alias_at (site i) f.listed (source i) (last i) >>= λ m. Ok (record f { listed = m }))
-run_role roles.External h f ps t site source last flags units =
-    two_more f (external_at h.site f.listed h.last (unwrap_or h.byte 0))
-    ∙ (λ i. external_at (site i) f.listed (last i) (unwrap_or (flags i) 0) >>= λ m. Ok (record f { listed = m }))
-run_role roles.Fields h f ps t site source last flags units =
-    two_more f (units_at h.site f.listed h.units)
-    ∙ (λ i. units_at (site i) f.listed (units i) >>= λ m. Ok (record f { listed = m }))
-
-pub run_entered : (g : Front) (o : ℕ) (w : Option PkgWidth) (ps : Parts) (t : Tail)
-    → head_enters (head_at g.site (op o w ps t)) g (unwrap_or (tail_of (op o w ps t)) (0, 0)) ≡ run.enter_as (role_of o) g ps t
-unfolding head_enters enters_by role_of
-run_entered g o w ps t =
-    let row = row_of o in
-    let met = head_met g.site row ps t in
-    let h = with_tail t (behind_head ps (around.head_of g.site row)) in
-    ap (λ (s : ℕ × ℕ). enters_by h.shape h g s) (tail_span o w ps t)
-    ∙ ap (λ (s : Shape). enters_by s h g (body_span t)) (ap (λ (x : Head). x.shape) met)
-    ∙ shape_of_row row h g (body_span t)
-    ∙ ap (λ (r : Role). enters_as r h g (body_span t)) (ap (λ (x : Head). x.role) met)
-    ∙ by row refl h g (ap (λ (x : Head). x.site) met) (ap (λ (x : Head). x.source) met ∙ source_is ps)
-    (ap (λ (x : Head). x.last) met) (ap (λ (x : Head). x.byte) met) (ap (λ (x : Head). x.units) met)
-  where
-    by : (row : Option Row) → row ≡ row_of o → (h : Head) (g : Front) → h.site ≡ g.site → h.source ≡ first_label ps
-        → h.last ≡ last_label None ps → h.byte ≡ last_byte None ps → h.units ≡ field_names t
-        → enters_as (unwrap_or (option_map (λ (r : Row). r.role) row) roles.Other) h g (body_span t) ≡ run.enter_as (role_of o) g ps t
-    by row e h g site source last flags units =
-        ap (λ (r : Option Row). enters_as (unwrap_or (option_map (λ (r : Row). r.role) r) roles.Other) h g (body_span t)) e
-        ∙ run_role (role_of o) h g ps t site source last flags units
-
-pub run_enters : (f : Front) (t : Tree)
+pub run_enters : (f : Front) (t : Tree) → f.site.any_run ≡ true
     → head_enters (head_at f.site t) (run.asked f t) (unwrap_or (tail_of t) (0, 0)) ≡ entered_at f t
 unfolding head_enters enters_by entered_at role_of
-run_enters f nothing = refl
-run_enters f (named n ts) = refl
-run_enters f (op o w ps t) = run_entered (run.asked f (op o w ps t)) o w ps t
+run_enters f nothing runs = ap (λ (b : Bool). the_front (cond b (run.asked f nothing) f)) (sym runs)
+run_enters f (named n ts) runs = ap (λ (b : Bool). the_front (cond b (run.asked f (named n ts)) f)) (sym runs)
+run_enters f (op o w ps t) runs = run_entered (run.asked f (op o w ps t)) o w ps t
 
 -- ---- and whether terms stand inside it
 

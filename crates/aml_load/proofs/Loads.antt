@@ -27,10 +27,10 @@ use Rattle.aml_set.specs.Views.{codes_view}
 use Rattle.aml_set.specs.declared.loaded.Loaded.{Loaded}
 use Rattle.aml_load.specs.declared.faults.LoadFault.{LoadFault}
 use Rattle.aml_load.specs.declared.faults.LoadFault.TheVariants as loads
-use Rattle.aml_load.specs.Declaring.{◌>>=◌, Listed, Use, first_listed, strict, declare_all, use_count, call_fault}
+use Rattle.aml_load.specs.Declaring.{◌>>=◌, Listed, Use, first_listed, use_count, call_fault}
 use Rattle.aml_load.specs.Declaring.{most_methods, uses_at}
 use Rattle.aml_load.specs.Loading.{methods_of, LoadsTo}
-use Rattle.aml_load.specs.Running.{Front, table_front, run_names}
+use Rattle.aml_load.specs.Running.{Front, table_front, behind_table, run_names}
 use Rattle.aml_load.specs.Tables.{ReadsOne, ReadTables, ListsTo, StopsOne, StopsTables, StopsFor, in_code, table_at}
 use Rattle.aml_load.specs.Tables.{tables_at, load_at, GivesBy, GivesLoad, Fails}
 use Rattle.aml_load.specs.Tables.{LoadsOneWay, LoadsForward, LoadsAgain, AreSpelled, LoadsInTextOrder}
@@ -51,28 +51,28 @@ module _ (t : ℕ) (l : Listed) (c : List ℕ) where
   module_at = all_at no_arguments None positions.ModuleTerm c
 
   abbrev declared : Trees → Result (Trees × Listed) LoadFault
-  declared ts = declare_all (strict t []) l ts >>= λ m. Ok (ts, m)
+  declared ts = behind_table false t l ts >>= λ m. Ok (ts, m)
 
-  terms_tell : (ts : Trees) → ReadsModule c ts → (r : Result Listed LoadFault) → declare_all (strict t []) l ts ≡ r
+  terms_tell : (ts : Trees) → ReadsModule c ts → (r : Result Listed LoadFault) → behind_table false t l ts ≡ r
       → OneTells false t l c (r >>= λ m. Ok (ts, m))
   terms_tell ts law (Ok m) is = (law, is)
   terms_tell ts law (Err e) is = inr (ts, law, is)
 
   code_tells : IsCode c → (r : Result Trees CodeFault) → module_at ≡ r → OneTells false t l c (in_code t r >>= declared)
-  code_tells fits (Ok ts) is = terms_tell ts (module_sound c ts fits is) (declare_all (strict t []) l ts) refl
+  code_tells fits (Ok ts) is = terms_tell ts (module_sound c ts fits is) (behind_table false t l ts) refl
   code_tells fits (Err f) is =
       inl (f, all_placed no_arguments None positions.ModuleTerm c f fits is, (λ ts law. never ts f module_at (module_again c ts law) is), refl)
 
   -- read from the left
   abbrev from_left : Result (Trees × Front) LoadFault
-  from_left = run_table_at (run_names t) c (table_front t l)
+  from_left = run_table_at (run_names t) c (table_front true t l)
 
   abbrev listed : Trees × Front → Result (Trees × Listed) LoadFault
   listed x = Ok (x.0, x.1.listed)
 
   run_tells : (r : Result (Trees × Front) LoadFault)
-      → MatchResult r (λ x. ReadsTable (run_names t) c (table_front t l) x.0 x.1)
-      (λ e. StopsTerms (run_names t) c 512 positions.RunTerm 0 (length c) (table_front t l) e)
+      → MatchResult r (λ x. ReadsTable (run_names t) c (table_front true t l) x.0 x.1)
+      (λ e. StopsTerms (run_names t) c 512 positions.RunTerm 0 (length c) (table_front true t l) e)
       → OneTells true t l c (r >>= listed)
   run_tells (Ok x) reads = (x.1, reads, refl)
   run_tells (Err e) stops = stops
@@ -80,7 +80,7 @@ module _ (t : ℕ) (l : Listed) (c : List ℕ) where
   table_tells : (any : Bool) → IsCode c → OneTells any t l c (table_at any t l c)
   unfolding table_at
   table_tells false fits = code_tells fits module_at refl
-  table_tells true fits = run_tells from_left (forward.table_tells (run_names t) c (table_front t l) fits)
+  table_tells true fits = run_tells from_left (forward.table_tells (run_names t) c (table_front true t l) fits)
 
   table_again : (any : Bool) (ts : Trees) (m : Listed) → ReadsOne any t l c ts m → table_at any t l c ≡ Ok (ts, m)
   unfolding table_at
@@ -88,13 +88,13 @@ module _ (t : ℕ) (l : Listed) (c : List ℕ) where
       ap (λ (r : Result Trees CodeFault). in_code t r >>= declared) (module_again c ts law)
       ∙ ap (λ (r : Result Listed LoadFault). r >>= λ m. Ok (ts, m)) is
   table_again true ts m (k, reads, same) =
-      ap (λ (r : Result (Trees × Front) LoadFault). r >>= listed) (forward.table_again (run_names t) c (table_front t l) ts k reads)
+      ap (λ (r : Result (Trees × Front) LoadFault). r >>= listed) (forward.table_again (run_names t) c (table_front true t l) ts k reads)
       ∙ ap (λ (n : Listed). Ok (ts, n)) same
 
   table_spelled : (any : Bool) (ts : Trees) (m : Listed) → ReadsOne any t l c ts m
       → (encodings c ts ≡ c) × BodiesStand c 0 ts
   table_spelled false ts m (law, is) = (law.spelled, law.bodies)
-  table_spelled true ts m (k, reads, same) = forward.table_spelled (run_names t) c (table_front t l) ts k reads
+  table_spelled true ts m (k, reads, same) = forward.table_spelled (run_names t) c (table_front true t l) ts k reads
 
 -- ---- the tables
 

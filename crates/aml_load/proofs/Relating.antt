@@ -27,21 +27,19 @@ use Rattle.aml_parse.specs.Running.{has_terms, is_block, ReadsTerms, Opens}
 use Rattle.aml_parse.proofs.Forward.{is_run, runs_on}
 use Rattle.aml_namespace.specs.Namespace.{Entry, Givens}
 use Rattle.aml_load.specs.declared.faults.LoadFault.{LoadFault}
-use Rattle.aml_load.specs.Declaring.{◌>>=◌, strict, Listed, Use, first_listed, with_uses, term_uses}
-use Rattle.aml_load.specs.Declaring.{most_methods, declare_as, declare, declare_inside, declare_all}
+use Rattle.aml_load.specs.Declaring.{◌>>=◌, Listed, Use, first_listed, with_uses, term_uses, most_methods}
 use Rattle.aml_load.specs.Loading.{role_of, Where, methods_of, in_declaration, AddsUnits, Does, DoesTerm, Agrees}
 use Rattle.aml_load.specs.Loading.{TermsDeclare, TermDeclares, TermsRead, TermReads, TableLoads, TablesLoad, LoadsTo}
-use Rattle.aml_load.specs.Running.{Front, entered_at, run_names}
+use Rattle.aml_load.specs.Running.{Front, table_front, enter_as, entered_at, behind_tree, behind_inside, behind_trees, run_names}
 use Rattle.aml_load.specs.Tables.{ReadsOne, ReadTables, ListsTo}
 use Rattle.aml_load.proofs.Agreeing.{AgreesOne, Agree, All-left, All-right, told, module_agrees, module_told, run_agrees}
 use Rattle.aml_load.proofs.Agreeing.{emptied, run_told}
-use Rattle.aml_load.proofs.Doing.{DoesBy, Shaped, shaped, does_is, does_so, bound, with_entries, goes_in, GoesSo}
-use Rattle.aml_load.proofs.Doing.{strict_is, strict_so, run_site, front, enter_is, enter_so, is_flat}
+use Rattle.aml_load.proofs.Doing.{DoesBy, Shaped, shaped, does_is, does_so, bound, with_entries, site_in, front_in}
+use Rattle.aml_load.proofs.Doing.{run_site, front, enter_is, enter_so, is_flat}
 use Rattle.aml_load.proofs.Holding.{methods_more}
 use Rattle.aml_load.proofs.NoSpans.{terms_tail}
 use Rattle.aml_load.proofs.RunSpans.{lists_in_text_order}
-use Rattle.aml_load.proofs.SpanLaws.{role_is, fits, is_body, is_terms, row_fits, next_in_table, kept_in_table}
-use Rattle.aml_load.proofs.SpanLaws.{is_flat as is_flat_tail}
+use Rattle.aml_load.proofs.SpanLaws.{role_is, inside_in_table, next_in_table, kept_in_table}
 
 -- ---- there don't become fewer methods
 
@@ -163,15 +161,6 @@ mutual
 
 -- ---- what the rows say
 
-closed_kind : (r : Role) (k : Option TailKind) → goes_in r ≡ false → fits r k ≡ true → is_terms k ≡ false
-unfolding fits is_flat_tail is_body is_terms
-closed_kind (roles.Declares o) k goes fit = absurd cc
-closed_kind roles.Scope k goes fit = absurd cc
-closed_kind roles.Guard k goes fit = absurd cc
-closed_kind _ (Some tails.Terms) goes fit = absurd cc
-closed_kind _ None goes fit = refl
-closed_kind _ (Some _) goes fit = refl
-
 row_flat : (o : ℕ) (r : Row) → row_of o ≡ Some r → has_terms r.tail ≡ true → not (is_flat r.role) ≡ true
 unfolding rows
 row_flat o r listed block = rows_say (λ r. has_terms r.tail) (λ r. not (is_flat r.role)) refl o r listed block
@@ -202,156 +191,145 @@ module _ (z : Bool) (last : List Entry) (code : List ℕ) where
     abbrev IsKind : ℕ → Position → Option TailKind → Tail → Type 0
     IsKind levels q k r = IsTail read (IsLawful read levels) q k set.empty r
 
-    -- where declaring doesn't go into a term there are no terms inside it
-    closed_is : (levels : ℕ) (q : Position) (k : Option TailKind) (r : Tail) (below : Where) (es fs : List Entry)
-        → is_terms k ≡ false → IsKind levels q k r → es ≡ fs → InsideDeclares z last code below es r fs
-    unfolding is_terms
-    closed_is levels q (Some tails.Terms) (terms ts) below es fs closed law same = absurd cc
-    closed_is levels q _ (terms ts) below es fs closed law same = absurd law
-    closed_is levels q k _ below es fs closed law same = same
+    abbrev here : List Seg → Bool → Where
+    here = site_in false t
 
-    -- what a term does behind which declaring goes into it or doesn't
-    goes_is : (levels : ℕ) (q : Position) (kind : Option TailKind) (k m : Listed) (r : Tail) (below : Where) (role : Role)
-        → fits role kind ≡ true → IsKind levels q kind r
-        → ((s : List Seg) → declare_inside (strict t s) k r ≡ Ok m
-        → InsideDeclares z last code (strict t s) k.entries r m.entries × Agree z last k.uses)
-        → ((s : List Seg) × (below ≡ strict t s) × (declare_inside (strict t s) k r ≡ Ok m)) ⊎ ((goes_in role ≡ false) × (k ≡ m))
-        → Agree z last m.uses
-        → InsideDeclares z last code below k.entries r m.entries × Agree z last k.uses
-    goes_is levels q kind k m r below role fit law inside (inl (s, stands, is)) all =
-        let inner = inside s is in
-        (subst (λ (b : Where). InsideDeclares z last code b k.entries r m.entries) (sym stands) inner.0, inner.1)
-    goes_is levels q kind k m r below role fit law inside (inr (goes, same)) all = (
-      closed_is levels q kind r below k.entries m.entries (closed_kind role kind goes fit) law (ap (λ (k : Listed). k.entries) same),
-      subst (λ (k : Listed). Agree z last k.uses) (sym same) all,
-    )
+    abbrev at : List Seg → Bool → Listed → Front
+    at = front_in false t
+
+    -- behind a term stands the site in front of it
+    stays : (s : List Seg) (b : Bool) (l : Listed) (x : Tree) (g : Front) → behind_tree (at s b l) x ≡ Ok g → g ≡ at s b g.listed
+    unfolding behind_tree entered_at
+    stays s b l (op o w ps r) g is =
+        let inner = bound (entered_at (at s b l) (op o w ps r)) _ g is in
+        let ended = bound (behind_inside inner.0 r) _ g inner.2 in
+        let same : at s b ended.0.listed ≡ g = (let h = ended.2 in cc) in
+        sym same ∙ ap (λ (f : Front). at s b f.listed) same
+    stays s b l nothing g is = let same : at s b l ≡ g = cc in sym same ∙ ap (λ (f : Front). at s b f.listed) same
+    stays s b l (named n ts) g is = let same : at s b l ≡ g = cc in sym same ∙ ap (λ (f : Front). at s b f.listed) same
+
+    -- nothing more is listed
+    still : (f g : Front) → f ≡ g → Agree z last g.listed.uses → (f.listed.entries ≡ g.listed.entries) × Agree z last f.listed.uses
+    still f g same all = (ap (λ (k : Front). k.listed.entries) same, subst (λ (k : Front). Agree z last k.listed.uses) (sym same) all)
 
     mutual
-      unfolding declare declare_inside declare_all
+      unfolding behind_trees behind_tree behind_inside entered_at
 
-      all_is : (levels : ℕ) (p : Position) (scope : List Seg) (l m : Listed) (ts : Trees) → levels ≤ 512 → takes_names p ≡ false
-          → AreTerms read levels p set.empty ts → declare_all (strict t scope) l ts ≡ Ok m → Agree z last m.uses
-          → TermsDeclare z last code (strict t scope) l.entries ts m.entries × Agree z last l.uses
-      all_is levels p scope l m no_trees less h law is all =
-          let same : l ≡ m = cc in (ap (λ (k : Listed). k.entries) same, subst (λ (k : Listed). Agree z last k.uses) (sym same) all)
-      all_is levels p scope l m (tree_more x xs) less h law is all =
-          let first = bound (declare (strict t scope) l x) _ m is in
-          let k = first.0 in
-          let rest = all_is levels (next_position p x) scope k m xs less (next_in_table p x h)
-          (subst (λ ls. AreTerms read levels (next_position p x) ls xs) (no_local set.empty x) law.1) first.2 all in
-          let here = tree_is levels p scope l k x less h law.0 first.1 rest.1 in
-          ((k.entries, here.0, rest.0), here.1)
+      all_is : (levels : ℕ) (p : Position) (s : List Seg) (b : Bool) (l : Listed) (ts : Trees) (g : Front) → levels ≤ 512
+          → takes_names p ≡ false → AreTerms read levels p set.empty ts → behind_trees (at s b l) ts ≡ Ok g → Agree z last g.listed.uses
+          → TermsDeclare z last code (here s b) l.entries ts g.listed.entries × Agree z last l.uses
+      all_is levels p s b l no_trees g less h law is all = let same : at s b l ≡ g = cc in still (at s b l) g same all
+      all_is levels p s b l (tree_more x xs) g less h law is all =
+          let first = bound (behind_tree (at s b l) x) _ g is in
+          let k = (first.0).listed in
+          let on = subst (λ (f : Front). behind_trees f xs ≡ Ok g) (stays s b l x first.0 first.1) first.2 in
+          let rest = all_is levels (next_position p x) s b k xs g less (next_in_table p x h)
+          (subst (λ ls. AreTerms read levels (next_position p x) ls xs) (no_local set.empty x) law.1) on all in
+          let one = tree_is levels p s b l x first.0 less h law.0 first.1 rest.1 in
+          ((k.entries, one.0, rest.0), one.1)
 
-      tree_is : (levels : ℕ) (p : Position) (scope : List Seg) (l m : Listed) (x : Tree) → levels ≤ 512 → takes_names p ≡ false
-          → IsLawful read levels p set.empty x → declare (strict t scope) l x ≡ Ok m → Agree z last m.uses
-          → TermDeclares z last code (strict t scope) l.entries x m.entries × Agree z last l.uses
-      tree_is levels p scope l m nothing less h law is all =
-          let same : l ≡ m = cc in (ap (λ (k : Listed). k.entries) same, subst (λ (k : Listed). Agree z last k.uses) (sym same) all)
-      tree_is levels p scope l m (named n ts) less h law is all =
-          let same : l ≡ m = cc in (ap (λ (k : Listed). k.entries) same, subst (λ (k : Listed). Agree z last k.uses) (sym same) all)
-      tree_is zero p scope l m (op o w ps r) less h law is all = absurd law
-      tree_is (suc levels) p scope l m (op o w ps r) less h law is all =
-          let asked = with_uses (strict t scope) l (op o w ps r) in
-          let did = strict_is t scope asked ps r (λ l below. declare_inside below l r) (role_of o) m is in
+      tree_is : (levels : ℕ) (p : Position) (s : List Seg) (b : Bool) (l : Listed) (x : Tree) (g : Front) → levels ≤ 512
+          → takes_names p ≡ false → IsLawful read levels p set.empty x → behind_tree (at s b l) x ≡ Ok g → Agree z last g.listed.uses
+          → TermDeclares z last code (here s b) l.entries x g.listed.entries × Agree z last l.uses
+      tree_is levels p s b l nothing g less h law is all = let same : at s b l ≡ g = cc in still (at s b l) g same all
+      tree_is levels p s b l (named n ts) g less h law is all = let same : at s b l ≡ g = cc in still (at s b l) g same all
+      tree_is zero p s b l (op o w ps r) g less h law is all = absurd law
+      tree_is (suc levels) p s b l (op o w ps r) g less h law is all =
+          let asked = with_uses (here s b) l (op o w ps r) in
+          let inner = bound (enter_as (role_of o) (at s b asked) ps r) _ g is in
+          let ended = bound (behind_inside inner.0 r) _ g inner.2 in
+          let same : at s b ended.0.listed ≡ g = (let h = ended.2 in cc) in
+          let did = enter_is false t s b asked ps r (role_of o) inner.0 inner.1 in
           let k = did.0 in
           let kind = (law.row).tail in
           let q = terms_in p (law.row).place in
           let tail = subst (λ (k : Option TailKind). IsKind levels q k r) (kept_in_table p kind h) law.tail in
-          let fit = row_fits p o law.row h law.listed (taker_takes p (law.row).place law.taken) in
-          let here = subst (λ (x : Role). fits x kind ≡ true) (sym (role_is o law.row law.listed)) fit.0 in
-          let inner = goes_is levels q kind k m r did.1 (role_of o) here tail
-          (λ s into. inside_is levels q kind s k m r (omega (arith, less)) fit.1 tail into all) did.3 all in
-          let uses = both l.uses (term_uses (strict t scope) (op o w ps r)) k.uses did.2.1 inner.1 in (
-            op_whole z last code (strict t scope) l.entries o w ps r m.entries (
+          let free = inside_in_table p o law.row h law.listed (taker_takes p (law.row).place law.taken) in
+          let inside = inside_is levels q kind did.1 did.2 k r ended.0 (omega (arith, less)) free tail
+          (subst (λ (f : Front). behind_inside f r ≡ Ok ended.0) did.3 ended.1)
+          (subst (λ (f : Front). Agree z last f.listed.uses) (sym same) all) in
+          let uses = both l.uses (term_uses (here s b) (op o w ps r)) k.uses did.4.1 inside.1 in (
+            op_whole z last code (here s b) l.entries o w ps r g.listed.entries (
               k.entries,
-              did.1,
-              module_agrees code z last (strict t scope) o w ps r no_arguments (suc levels) p less h law uses.1,
-              does_is (strict t scope) l.entries k.entries did.1 (role_of o) ps r (shaped read (IsLawful read levels) p set.empty o w ps r law) did.2.0,
-              inner.0,
+              here did.1 did.2,
+              module_agrees code z last (here s b) o w ps r no_arguments (suc levels) p less h law uses.1,
+              does_is (here s b) l.entries k.entries (here did.1 did.2) (role_of o) ps r (shaped read (IsLawful read levels) p set.empty o w ps r law) did.4.0,
+              subst (λ (f : Front). InsideDeclares z last code (here did.1 did.2) k.entries r f.listed.entries) same inside.0,
             ),
             uses.0,
           )
 
-      inside_is : (levels : ℕ) (q : Position) (kind : Option TailKind) (scope : List Seg) (l m : Listed) (r : Tail) → levels ≤ 512
-          → (kind ≡ Some tails.Terms → takes_names q ≡ false) → IsKind levels q kind r
-          → declare_inside (strict t scope) l r ≡ Ok m → Agree z last m.uses
-          → InsideDeclares z last code (strict t scope) l.entries r m.entries × Agree z last l.uses
-      inside_is levels q kind scope l m (terms ts) less free law is all =
+      inside_is : (levels : ℕ) (q : Position) (kind : Option TailKind) (s : List Seg) (b : Bool) (l : Listed) (r : Tail) (g : Front)
+          → levels ≤ 512 → (kind ≡ Some tails.Terms → takes_names q ≡ false) → IsKind levels q kind r
+          → behind_inside (at s b l) r ≡ Ok g → Agree z last g.listed.uses
+          → InsideDeclares z last code (here s b) l.entries r g.listed.entries × Agree z last l.uses
+      inside_is levels q kind s b l (terms ts) g less free law is all =
           let e = terms_tail read levels q set.empty kind ts law in
-          all_is levels q scope l m ts less (free e.0) e.1 is all
-      inside_is levels q kind scope l m _ less free law is all =
-          let same : l ≡ m = cc in (ap (λ (k : Listed). k.entries) same, subst (λ (k : Listed). Agree z last k.uses) (sym same) all)
+          all_is levels q s b l ts g less (free e.0) e.1 is all
+      inside_is levels q kind s b l _ g less free law is all = let same : at s b l ≡ g = cc in still (at s b l) g same all
 
     -- ---- and back
 
     -- declaring forward lists these entries, and names that agree
-    abbrev Listing : Result Listed LoadFault → List Entry → Type 0
-    Listing r fs = (us : List Use) × (r ≡ Ok (record { entries = fs; uses = us })) × Agree z last us
+    abbrev Listing : List Seg → Bool → Result Front LoadFault → List Entry → Type 0
+    Listing s b r fs = (us : List Use) × (r ≡ Ok (at s b (record { entries = fs; uses = us }))) × Agree z last us
 
-    closed_so : (s : Setting) (levels : ℕ) (q : Position) (k : Option TailKind) (r : Tail) (below : Where) (es fs : List Entry)
-        → is_terms k ≡ false → IsTail s (IsLawful s levels) q k set.empty (emptied r)
-        → InsideDeclares z last code below es r fs → es ≡ fs
-    unfolding is_terms
-    closed_so s levels q (Some tails.Terms) (terms ts) below es fs closed law same = absurd cc
-    closed_so s levels q _ (terms ts) below es fs closed law same = absurd law
-    closed_so s levels q k _ below es fs closed law same = same
-
-    closed_law : (scope : List Seg) (o : ℕ) (w : Option PkgWidth) (ps : Parts) (r : Tail) (below : Where) (es fs : List Entry)
-        → Agrees z last code positions.ModuleTerm (strict t scope) (op o w ps (emptied r)) → goes_in (role_of o) ≡ false
-        → InsideDeclares z last code below es r fs → es ≡ fs
-    closed_law scope o w ps r below es fs law goes inner =
+    -- inside a term in which none stand there are none
+    no_terms : (s : List Seg) (b : Bool) (o : ℕ) (w : Option PkgWidth) (ps : Parts)
+        → Agrees z last code positions.ModuleTerm (here s b) (op o w ps (terms no_trees)) → is_flat (role_of o) ≡ true → ⊥
+    no_terms s b o w ps law flat =
         let kind = (law.row).tail in
         let q = terms_in positions.ModuleTerm (law.row).place in
-        let s = told code z last (strict t scope) (in_declaration (op o w ps r)) in
-        let tail = subst (λ (k : Option TailKind). IsTail s (IsLawful s 511) q k set.empty (emptied r)) (kept_in_table positions.ModuleTerm kind refl) law.tail in
-        let fit = row_fits positions.ModuleTerm o law.row refl law.listed (taker_takes positions.ModuleTerm (law.row).place law.taken) in
-        let here = subst (λ (x : Role). fits x kind ≡ true) (sym (role_is o law.row law.listed)) fit.0 in
-        closed_so s 511 q kind r below es fs (closed_kind (role_of o) kind goes here) tail inner
+        let counts = told code z last (here s b) (in_declaration (op o w ps (terms no_trees))) in
+        let tail = subst (λ (k : Option TailKind). IsTail counts (IsLawful counts 511) q k set.empty (terms no_trees))
+        (kept_in_table positions.ModuleTerm kind refl) law.tail in
+        let e = terms_tail counts 511 q set.empty kind no_trees tail in
+        flat_no_block o (Some law.row) law.listed (ap has_terms e.0) flat
 
-    goes_so : (scope : List Seg) (o : ℕ) (w : Option PkgWidth) (ps : Parts) (r : Tail) (l : Listed) (gs : List Entry) (below : Where) (fs : List Entry)
-        → Agrees z last code positions.ModuleTerm (strict t scope) (op o w ps (emptied r))
-        → InsideDeclares z last code below gs r fs → Agree z last l.uses
-        → GoesSo t scope l ps r (λ l below. declare_inside below l r) (role_of o) gs below
-        → ((s : List Seg) → InsideDeclares z last code (strict t s) gs r fs → Listing (declare_inside (strict t s) (with_entries l gs) r) fs)
-        → Listing (declare_as (role_of o) (strict t scope) l ps r (λ l below. declare_inside below l r)) fs
-    goes_so scope o w ps r l gs below fs agrees inner uses (inl (s, stands, is)) inside =
-        let there = inside s (subst (λ (b : Where). InsideDeclares z last code b gs r fs) stands inner) in
-        (there.0, is ∙ there.1, there.2)
-    goes_so scope o w ps r l gs below fs agrees inner uses (inr (goes, is)) inside =
-        (l.uses, is ∙ ap (λ es. Ok (with_entries l es)) (closed_law scope o w ps r below gs fs agrees goes inner), uses)
+    within : (s d : List Seg) (b c : Bool) (o : ℕ) (w : Option PkgWidth) (ps : Parts) (r : Tail) (below : Where) (es fs : List Entry)
+        → Agrees z last code positions.ModuleTerm (here s b) (op o w ps (emptied r)) → (below ≡ here d c) ⊎ (is_flat (role_of o) ≡ true)
+        → InsideDeclares z last code below es r fs → InsideDeclares z last code (here d c) es r fs
+    within s d b c o w ps r below es fs law (inl same) inside =
+        subst (λ (v : Where). InsideDeclares z last code v es r fs) same inside
+    within s d b c o w ps (terms ts) below es fs law (inr flat) inside = absurd (no_terms s b o w ps law flat)
+    within s d b c o w ps _ below es fs law (inr flat) inside = inside
+
+    -- a term, by what stands behind the terms inside it
+    abbrev ends : Front → Result Front LoadFault → Result Front LoadFault
+    ends f r = r >>= λ e. Ok (record f { listed = e.listed })
 
     mutual
-      unfolding declare declare_inside declare_all
+      unfolding behind_trees behind_tree behind_inside entered_at
 
-      all_so : (scope : List Seg) (l : Listed) (ts : Trees) (fs : List Entry) → length (methods_of fs) ≤ most_methods
-          → TermsDeclare z last code (strict t scope) l.entries ts fs → Agree z last l.uses
-          → Listing (declare_all (strict t scope) l ts) fs
-      all_so scope l no_trees fs few same all = (l.uses, ap (λ es. Ok (with_entries l es)) same, all)
-      all_so scope l (tree_more x xs) fs few (gs, first, rest) all =
-          let here = tree_so scope l x gs (omega (arith, few, terms_fewer z last code (strict t scope) gs xs fs rest)) first all in
-          let behind = all_so scope (record { entries = gs; uses = here.0 }) xs fs few rest here.2 in
-          (behind.0, ap (λ (r : Result Listed LoadFault). r >>= λ k. declare_all (strict t scope) k xs) here.1 ∙ behind.1, behind.2)
+      all_so : (s : List Seg) (b : Bool) (l : Listed) (ts : Trees) (fs : List Entry) → length (methods_of fs) ≤ most_methods
+          → TermsDeclare z last code (here s b) l.entries ts fs → Agree z last l.uses → Listing s b (behind_trees (at s b l) ts) fs
+      all_so s b l no_trees fs few same all = (l.uses, ap (λ es. Ok (at s b (with_entries l es))) same, all)
+      all_so s b l (tree_more x xs) fs few (gs, first, rest) all =
+          let one = tree_so s b l x gs (omega (arith, few, terms_fewer z last code (here s b) gs xs fs rest)) first all in
+          let behind = all_so s b (record { entries = gs; uses = one.0 }) xs fs few rest one.2 in
+          (behind.0, ap (λ (r : Result Front LoadFault). r >>= λ k. behind_trees k xs) one.1 ∙ behind.1, behind.2)
 
-      tree_so : (scope : List Seg) (l : Listed) (x : Tree) (fs : List Entry) → length (methods_of fs) ≤ most_methods
-          → TermDeclares z last code (strict t scope) l.entries x fs → Agree z last l.uses
-          → Listing (declare (strict t scope) l x) fs
-      tree_so scope l nothing fs few same all = (l.uses, ap (λ es. Ok (with_entries l es)) same, all)
-      tree_so scope l (named n ts) fs few same all = (l.uses, ap (λ es. Ok (with_entries l es)) same, all)
-      tree_so scope l (op o w ps r) fs few h all =
-          let site = strict t scope in
-          let d = op_parts z last code site l.entries o w ps r fs h in
-          let asked = with_uses site l (op o w ps r) in
-          let uses = one l.uses (term_uses site (op o w ps r)) asked.uses refl all (module_told code z last site o w ps r d.2) in
-          let did = strict_so t scope asked ps r (λ l below. declare_inside below l r) (role_of o) d.0 d.1
-          (omega (arith, few, inside_fewer z last code d.1 d.0 r fs d.4)) (does_so site l.entries d.0 d.1 (role_of o) ps r d.3) in
-          goes_so scope o w ps r asked d.0 d.1 fs d.2 d.4 uses did
-          (λ s there. inside_so s (with_entries asked d.0) r fs few there uses)
+      tree_so : (s : List Seg) (b : Bool) (l : Listed) (x : Tree) (fs : List Entry) → length (methods_of fs) ≤ most_methods
+          → TermDeclares z last code (here s b) l.entries x fs → Agree z last l.uses → Listing s b (behind_tree (at s b l) x) fs
+      tree_so s b l nothing fs few same all = (l.uses, ap (λ es. Ok (at s b (with_entries l es))) same, all)
+      tree_so s b l (named n ts) fs few same all = (l.uses, ap (λ es. Ok (at s b (with_entries l es))) same, all)
+      tree_so s b l (op o w ps r) fs few h all =
+          let d = op_parts z last code (here s b) l.entries o w ps r fs h in
+          let asked = with_uses (here s b) l (op o w ps r) in
+          let uses = one l.uses (term_uses (here s b) (op o w ps r)) asked.uses refl all (module_told code z last (here s b) o w ps r d.2) in
+          let did = enter_so false t s b asked ps r (role_of o) d.0 d.1
+          (omega (arith, few, inside_fewer z last code d.1 d.0 r fs d.4)) (does_so (here s b) l.entries d.0 d.1 (role_of o) ps r d.3) in
+          let inside = inside_so did.0 did.1 (with_entries asked d.0) r fs few
+          (within s did.0 b did.1 o w ps r d.1 d.0 fs d.2 did.3 d.4) uses in (
+            inside.0,
+            ap (λ (q : Result Front LoadFault). q >>= λ i. ends (at s b l) (behind_inside i r)) did.2 ∙ ap (ends (at s b l)) inside.1,
+            inside.2,
+          )
 
-      inside_so : (scope : List Seg) (l : Listed) (r : Tail) (fs : List Entry) → length (methods_of fs) ≤ most_methods
-          → InsideDeclares z last code (strict t scope) l.entries r fs → Agree z last l.uses
-          → Listing (declare_inside (strict t scope) l r) fs
-      inside_so scope l (terms ts) fs few h all = all_so scope l ts fs few h all
-      inside_so scope l _ fs few same all = (l.uses, ap (λ es. Ok (with_entries l es)) same, all)
+      inside_so : (s : List Seg) (b : Bool) (l : Listed) (r : Tail) (fs : List Entry) → length (methods_of fs) ≤ most_methods
+          → InsideDeclares z last code (here s b) l.entries r fs → Agree z last l.uses → Listing s b (behind_inside (at s b l) r) fs
+      inside_so s b l (terms ts) fs few h all = all_so s b l ts fs few h all
+      inside_so s b l _ fs few same all = (l.uses, ap (λ es. Ok (at s b (with_entries l es))) same, all)
 
 -- ---- the terms of a table that is read from the left
 
@@ -380,7 +358,7 @@ module _ (z : Bool) (last : List Entry) (code : List ℕ) (t : ℕ) where
       let same : front t s b (with_uses (run_site t s b) l (named n ts)) ≡ inner = cc in
       (with_uses (run_site t s b) l (named n ts), s, b, sym same, refl, refl)
   head_is s b l (op o w ps r) inner form is =
-      let did = enter_is t s b (with_uses (run_site t s b) l (op o w ps r)) ps r (role_of o) inner is in
+      let did = enter_is true t s b (with_uses (run_site t s b) l (op o w ps r)) ps r (role_of o) inner is in
       (did.0, did.1, did.2, did.3, does_is (run_site t s b) l.entries (did.0).entries (run_site t did.1 did.2) (role_of o) ps r form did.4.0, did.4.1)
 
   mutual
@@ -442,7 +420,7 @@ module _ (z : Bool) (last : List Entry) (code : List ℕ) (t : ℕ) where
   head_so s b l (named n ts) inner below few same =
       (s, b, ap (λ es. Ok (front t s b (with_entries (with_uses (run_site t s b) l (named n ts)) es))) same, inr tt)
   head_so s b l (op o w ps r) inner below few does =
-      enter_so t s b (with_uses (run_site t s b) l (op o w ps r)) ps r (role_of o) inner below few
+      enter_so true t s b (with_uses (run_site t s b) l (op o w ps r)) ps r (role_of o) inner below few
       (does_so (run_site t s b) l.entries inner below (role_of o) ps r does)
 
   block_stands : (head : Tree) (below site : Where) → is_block head ≡ true → (below ≡ site) ⊎ Flat head → below ≡ site
@@ -501,8 +479,11 @@ module _ (any z : Bool) (last : List Entry) where
   table_is : (mode : Bool) (t : ℕ) (l : Listed) (c : List ℕ) (ts : Trees) (m : Listed) → ReadsOne mode t l c ts m → Agree z last m.uses
       → TableLoads mode z last t l.entries c ts m.entries × Agree z last l.uses
   table_is false t l c ts m (law, is) all =
-      let done = all_is z last c t 512 positions.ModuleTerm [] l m ts (omega arith) refl law.lawful is all in
-      ((law, done.0), done.1)
+      let behind = bound (behind_trees (table_front false t l) ts) _ m is in
+      let same : behind.0.listed ≡ m = (let h = behind.2 in cc) in
+      let done = all_is z last c t 512 positions.ModuleTerm [] true l ts behind.0 (omega arith) refl law.lawful behind.1
+      (subst (λ (n : Listed). Agree z last n.uses) (sym same) all) in
+      ((law, subst (λ (n : Listed). TermsDeclare z last c (site_in false t [] true) l.entries ts n.entries) same done.0), done.1)
   table_is true t l c ts m (k, reads, same) all =
       let uses = subst (λ (n : Listed). Agree z last n.uses) (sym same) all in
       let done = read_is z last c t 512 positions.RunTerm 0 (length c) [] true l ts k (omega arith) refl reads uses in
@@ -537,7 +518,8 @@ module _ (any z : Bool) (last : List Entry) where
       → TableLoads mode z last t l.entries c ts fs → Agree z last l.uses
       → (us : List Use) × ReadsOne mode t l c ts (record { entries = fs; uses = us }) × Agree z last us
   table_so false t l c ts fs few (law, declares) all =
-      let done = all_so z last c t [] l ts fs few declares all in (done.0, (law, done.1), done.2)
+      let done = all_so z last c t [] true l ts fs few declares all in
+      (done.0, (law, ap (λ (r : Result Front LoadFault). r >>= λ f. Ok f.listed) done.1), done.2)
   table_so true t l c ts fs few read all =
       let done = read_so z last c t 512 positions.RunTerm 0 (length c) [] true l ts fs few refl read all in
       (done.0, (front t [] true (record { entries = fs; uses = done.0 }), done.1, refl), done.2)

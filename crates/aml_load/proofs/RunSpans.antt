@@ -1,7 +1,7 @@
 -- The methods of tables stand in the order of the text, each once, and there aren't too many. Where the code outside
 -- methods may run, a term's own body is that of a method, and loading goes into all terms in which one can stand.
 use Rattle.std.proofs.Common.{◌≡◌, ℕ, zero, suc, Bool, true, false, not, cond, List, [], ◌∷◌, ◌++◌, length, map, Option}
-use Rattle.std.proofs.Common.{Some, None, Result, Ok, Err, refl, sym, ap, subst, ◌∙◌, ◌≤◌, arith, nat_le, ◌-◌, ◌+◌}
+use Rattle.std.proofs.Common.{Some, None, Result, Ok, Err, refl, sym, ap, subst, ◌∙◌, ◌≤◌, arith, nat_le, ◌-◌, ◌+◌, ◌⊎◌, inl, inr}
 use Rattle.std.specs.Prelude.{IfOk}
 use Rattle.std.specs.FinSet as set
 use Rattle.std.specs.Option.{option_map, unwrap_or}
@@ -14,26 +14,30 @@ use Rattle.aml_code.specs.declared.rows.Role.TheVariants as roles
 use Rattle.aml_code.specs.declared.rows.TailKind.{TailKind}
 use Rattle.aml_code.specs.declared.rows.TailKind.TheVariants as tails
 use Rattle.aml_code.specs.Opcodes.{Row, rows, row_of}
-use Rattle.aml_code.specs.Tree.{Tree, nothing, named, op, Trees, no_trees, tree_more, Parts, Tail, terms, body}
-use Rattle.aml_code.specs.Lawful.{field_names, last_label, Setting, setting_of, IsLawful, IsTail, ReadsStep}
-use Rattle.aml_code.specs.Lawful.{next_position, terms_in, tail_in}
+use Rattle.aml_code.specs.Tree.{Tree, nothing, named, op, Trees, no_trees, tree_more, Parts, Tail, empty, terms, bytes}
+use Rattle.aml_code.specs.Tree.{elements, fields, body}
+use Rattle.aml_code.specs.Lawful.{field_names, last_label, Setting, setting_of, IsLawful, AreTerms, IsTail, ReadsModule}
+use Rattle.aml_code.specs.Lawful.{ReadsStep, after, next_position, terms_in, tail_in, no_arguments}
 use Rattle.aml_code.proofs.RowFacts.{rows_say}
+use Rattle.aml_code.proofs.Takers.{taker_takes}
+use Rattle.aml_parse.specs.Reading.{takes_names}
+use Rattle.std.proofs.lemmas.List.{append-nil}
 use Rattle.aml_parse.specs.Running.{has_terms, is_block, ReadsTerms, Opens}
 use Rattle.aml_parse.proofs.Forward.{is_run, runs_on}
 use Rattle.aml_namespace.specs.Namespace.{Givens, external}
 use Rattle.aml_load.specs.declared.faults.LoadFault.{LoadFault}
 use Rattle.aml_load.specs.Declaring.{◌>>=◌, Listed, first_listed, byte_of, body_span, first_label, most_methods}
 use Rattle.aml_load.specs.Declaring.{place_at, lead_at, entry_at, method_at, alias_at, external_at, units_at}
-use Rattle.aml_load.specs.Declaring.{declare_as}
 use Rattle.aml_load.specs.Loading.{role_of, kind_of, methods_of, plain_entry}
 use Rattle.aml_load.specs.Spans.{Span, tree_spans, all_spans, parts_spans, tail_spans, tables_spans, method_span, InTextOrder}
-use Rattle.aml_load.specs.Running.{Front, table_front, asked, opened_at, object_at, scope_at, enter_as, entered_at}
-use Rattle.aml_load.specs.Running.{run_names}
+use Rattle.aml_load.specs.Running.{Front, table_front, asked, opened_at, object_at, scope_at, flat_at, enter_as, entered_at}
+use Rattle.aml_load.specs.Running.{behind_tree, behind_inside, behind_trees, behind_table, run_names}
 use Rattle.aml_load.specs.Tables.{ReadsOne, ReadTables, ListsTo}
 use Rattle.aml_load.proofs.Givens.{no_methods}
-use Rattle.aml_load.proofs.NoSpans.{parts_none, all_none, tail_none}
-use Rattle.aml_load.proofs.SpanLaws.{role_is, one_span, Adds, nothing_more, then_adds, plain_adds, method_adds}
-use Rattle.aml_load.proofs.SpanLaws.{GivesMore, unless_adds, after_adds, entry_adds, new_adds, units_add, module_adds}
+use Rattle.aml_load.proofs.NoSpans.{terms_tail, parts_none, all_none, tail_none}
+use Rattle.aml_load.proofs.SpanLaws.{role_is, inside_in_table, kept_in_table, next_in_table, one_span, Adds, nothing_more}
+use Rattle.aml_load.proofs.SpanLaws.{then_adds, plain_adds, method_adds, GivesMore, unless_adds, after_adds, entry_adds}
+use Rattle.aml_load.proofs.SpanLaws.{new_adds, units_add}
 
 -- ---- what the rows say of terms of such tables
 
@@ -75,7 +79,7 @@ more_of (Ok k) l m spans h e = let same : k ≡ m = cc in subst (λ (j : Listed)
 more_of (Err d) l m spans h e = absurd cc
 
 enter_adds : (r : Role) (f : Front) (ps : Parts) (x : Tail) → Enters (enter_as r f ps x) f (own_spans r f.site.table x)
-unfolding enter_as object_at scope_at declare_as method_at alias_at external_at is_method
+unfolding enter_as object_at scope_at flat_at method_at alias_at external_at is_method
 enter_adds (roles.Declares o) f ps x = then_enters (place_at f.site (last_label None ps)) _ f [] (λ p _.
     let e = plain_entry f.site f.listed.entries (kind_of o) p in
     then_enters (entry_at f.site f.listed p e) _ f [] (λ m is.
@@ -159,8 +163,14 @@ module _ (t : ℕ) (code : List ℕ) where
   abbrev the_front : Front → Result Front LoadFault
   the_front g = Ok g
 
-  passed : (f inner : Front) (x : Tree) → the_front (asked f x) ≡ Ok inner → AddsTo f inner []
-  passed f inner x is = let same : asked f x ≡ inner = cc in subst (λ (g : Front). AddsTo f g []) same (nothing_more f.listed.entries)
+  passed : (f inner : Front) (x : Tree) → the_front (cond f.site.any_run (asked f x) f) ≡ Ok inner → AddsTo f inner []
+  passed f inner x is =
+      let same : cond f.site.any_run (asked f x) f ≡ inner = cc in
+      subst (λ (g : Front). AddsTo f g []) same (by f.site.any_run)
+    where
+      by : (any : Bool) → AddsTo f (cond any (asked f x) f) []
+      by true = nothing_more f.listed.entries
+      by false = nothing_more f.listed.entries
 
   same_spans : (f g : Front) (xs ys : List Span) → ys ≡ xs → AddsTo f g xs → AddsTo f g ys
   same_spans f g xs ys e = subst (λ zs. AddsTo f g zs) (sym e)
@@ -216,6 +226,127 @@ module _ (t : ℕ) (code : List ℕ) where
         (ap (λ zs. zs ++ tail_spans table x) (parts_none (setting f) table levels (law.row).parts set.empty ps law.parts) ∙ own)
         (subst (λ (k : Front). AddsTo f k (own_spans (role_of o) table x)) h.2 add.0)
 
+-- ---- the terms of a table that is read whole
+
+-- one step behind another
+more_enters : (r : Result Front LoadFault) (k : Front → Result Front LoadFault) (f : Front) (xs ys : List Span) → Enters r f xs
+    → ((g : Front) → g.site.table ≡ f.site.table → Enters (k g) g ys) → Enters (r >>= k) f (xs ++ ys)
+more_enters (Ok g) k f xs ys one two = by (k g) (two g one.1)
+  where
+    by : (r : Result Front LoadFault) → Enters r g ys → Enters r f (xs ++ ys)
+    by (Ok h) more = (then_adds f.listed.entries g.listed.entries h.listed.entries xs ys one.0 more.0, more.1 ∙ one.1)
+    by (Err e) more = tt
+more_enters (Err e) k f xs ys one two = tt
+
+-- behind the terms inside a term
+put_back : (r : Result Front LoadFault) (f inner : Front) (ys : List Span) → inner.site.table ≡ f.site.table → Enters r inner ys
+    → Enters (r >>= λ e. Ok (record f { listed = e.listed })) inner ys
+put_back (Ok e) f inner ys same h = (h.0, sym same)
+put_back (Err d) f inner ys same h = tt
+
+as_spans : (r : Result Front LoadFault) (f : Front) (xs ys : List Span) → ys ≡ xs → Enters r f xs → Enters r f ys
+as_spans r f xs ys e = subst (λ zs. Enters r f zs) (sym e)
+
+abbrev fine : Front → Result Front LoadFault
+fine f = Ok f
+
+-- a term without an opcode
+nothing_entered : (any : Bool) (f : Front) (x : Tree) → Enters (fine (cond any (asked f x) f)) f []
+nothing_entered true f x = (nothing_more f.listed.entries, refl)
+nothing_entered false f x = (nothing_more f.listed.entries, refl)
+
+-- the bodies in the terms inside a term
+inner_spans : ℕ → Tail → List Span
+inner_spans t (terms xs) = all_spans t xs
+inner_spans t _ = []
+
+is_terms_tail : (k : Option TailKind) → (has_terms k ≡ false) ⊎ (k ≡ Some tails.Terms)
+is_terms_tail (Some tails.Terms) = inr refl
+is_terms_tail (Some tails.Bytes) = inl refl
+is_terms_tail (Some tails.Elements) = inl refl
+is_terms_tail (Some tails.Fields) = inl refl
+is_terms_tail (Some tails.Body) = inl refl
+is_terms_tail None = inl refl
+
+module _ (s : Setting) (t : ℕ) where
+  -- a term's own body, and those in the terms inside it
+  module _ (levels : ℕ) (q : Position) (ls : PathSet) (role : Role) (k : Option TailKind) (fit : fits role k ≡ true) where
+    flat_spans : (r : Tail) → has_terms k ≡ false → IsTail s (IsLawful s levels) q k ls r → tail_spans t r ≡ own_spans role t r ++ []
+    flat_spans r flat law = own_tail s levels q ls t role k r fit flat law ∙ sym (append-nil (own_spans role t r))
+
+    whole_spans : (r : Tail) → (has_terms k ≡ false) ⊎ (k ≡ Some tails.Terms) → IsTail s (IsLawful s levels) q k ls r
+        → tail_spans t r ≡ own_spans role t r ++ inner_spans t r
+    unfolding inner_spans
+    whole_spans (terms xs) sort law =
+        let is = (terms_tail s levels q ls k xs law).0 in
+        let none = no_method role k fit (ap has_terms is) in
+        sym (ap (λ (b : Bool). cond b (one_span t (terms xs)) [] ++ all_spans t xs) none)
+    whole_spans empty (inr is) law = absurd (subst (λ (k : Option TailKind). IsTail s (IsLawful s levels) q k ls empty) is law)
+    whole_spans (bytes xs) (inr is) law = absurd (subst (λ (k : Option TailKind). IsTail s (IsLawful s levels) q k ls (bytes xs)) is law)
+    whole_spans (elements ts) (inr is) law =
+        absurd (subst (λ (k : Option TailKind). IsTail s (IsLawful s levels) q k ls (elements ts)) is law)
+    whole_spans (fields us) (inr is) law = absurd (subst (λ (k : Option TailKind). IsTail s (IsLawful s levels) q k ls (fields us)) is law)
+    whole_spans (body start len) (inr is) law =
+        absurd (subst (λ (k : Option TailKind). IsTail s (IsLawful s levels) q k ls (body start len)) is law)
+    whole_spans empty (inl flat) law = flat_spans empty flat law
+    whole_spans (bytes xs) (inl flat) law = flat_spans (bytes xs) flat law
+    whole_spans (elements ts) (inl flat) law = flat_spans (elements ts) flat law
+    whole_spans (fields us) (inl flat) law = flat_spans (fields us) flat law
+    whole_spans (body start len) (inl flat) law = flat_spans (body start len) flat law
+
+  mutual
+    unfolding behind_tree behind_inside behind_trees entered_at inner_spans
+
+    tree_adds : (levels : ℕ) (p : Position) (ls : PathSet) (f : Front) (x : Tree) → f.site.table ≡ t → takes_names p ≡ false
+        → IsLawful s levels p ls x → Enters (behind_tree f x) f (tree_spans t x)
+    tree_adds levels p ls f nothing at h law = nothing_entered f.site.any_run f nothing
+    tree_adds zero p ls f _ at h law = absurd law
+    tree_adds (suc levels) p ls f (named n xs) at h law =
+        as_spans (fine (cond f.site.any_run (asked f (named n xs)) f)) f [] (all_spans t xs)
+        (all_none s t levels positions.Argument ls xs refl law.3) (nothing_entered f.site.any_run f (named n xs))
+    tree_adds (suc levels) p ls f (op o w ps r) at h law =
+        let k = (law.row).tail in
+        let q = terms_in p (law.row).place in
+        let role = (law.row).role in
+        let tail = subst (λ (k : Option TailKind). IsTail s (IsLawful s levels) q k ls r) (kept_in_table p k h) law.tail in
+        let free = inside_in_table p o law.row h law.listed (taker_takes p (law.row).place law.taken) in
+        let own = subst (λ (n : ℕ). Enters (enter_as (role_of o) (asked f (op o w ps r)) ps r) f (own_spans (role_of o) n r)) at
+        (enter_adds (role_of o) (asked f (op o w ps r)) ps r) in
+        let spans = whole_spans levels q ls role k (row_fits o law.row law.listed) r (is_terms_tail k) tail
+        ∙ ap (λ (x : Role). own_spans x t r ++ inner_spans t r) (sym (role_is o law.row law.listed)) in
+        as_spans (behind_tree f (op o w ps r)) f (own_spans (role_of o) t r ++ inner_spans t r) (parts_spans t ps ++ tail_spans t r)
+        (ap (λ zs. zs ++ tail_spans t r) (parts_none s t levels (law.row).parts ls ps law.parts) ∙ spans)
+        (more_enters (enter_as (role_of o) (asked f (op o w ps r)) ps r)
+        (λ i. behind_inside i r >>= λ e. Ok (record f { listed = e.listed })) f (own_spans (role_of o) t r) (inner_spans t r) own (λ i same.
+        put_back (behind_inside i r) f i (inner_spans t r) same (inside_adds levels q k ls i r (same ∙ at) free tail)))
+
+    inside_adds : (levels : ℕ) (p : Position) (k : Option TailKind) (ls : PathSet) (f : Front) (r : Tail) → f.site.table ≡ t
+        → (k ≡ Some tails.Terms → takes_names p ≡ false) → IsTail s (IsLawful s levels) p k ls r
+        → Enters (behind_inside f r) f (inner_spans t r)
+    inside_adds levels p k ls f (terms xs) at h law = let e = terms_tail s levels p ls k xs law in all_add levels p ls f xs at (h e.0) e.1
+    inside_adds levels p k ls f empty at h law = (nothing_more f.listed.entries, refl)
+    inside_adds levels p k ls f (bytes xs) at h law = (nothing_more f.listed.entries, refl)
+    inside_adds levels p k ls f (elements xs) at h law = (nothing_more f.listed.entries, refl)
+    inside_adds levels p k ls f (fields us) at h law = (nothing_more f.listed.entries, refl)
+    inside_adds levels p k ls f (body start len) at h law = (nothing_more f.listed.entries, refl)
+
+    all_add : (levels : ℕ) (p : Position) (ls : PathSet) (f : Front) (xs : Trees) → f.site.table ≡ t → takes_names p ≡ false
+        → AreTerms s levels p ls xs → Enters (behind_trees f xs) f (all_spans t xs)
+    all_add levels p ls f no_trees at h law = (nothing_more f.listed.entries, refl)
+    all_add levels p ls f (tree_more x xs) at h law =
+        more_enters (behind_tree f x) _ f (tree_spans t x) (all_spans t xs) (tree_adds levels p ls f x at h law.0)
+        (λ g same. all_add levels (next_position p x) (after s.scope ls x) g xs (same ∙ at) (next_in_table p x h) law.1)
+
+module_adds : (t : ℕ) (l : Listed) (code : List ℕ) (xs : Trees) (m : Listed) → ReadsModule code xs
+    → behind_table false t l xs ≡ Ok m → Adds l.entries m.entries (all_spans t xs)
+module_adds t l code xs m law is = by (behind_trees (table_front false t l) xs) is
+    (all_add (setting_of no_arguments None code) t 512 positions.ModuleTerm set.empty (table_front false t l) xs refl refl law.lawful)
+  where
+    by : (r : Result Front LoadFault) → (r >>= λ f. Ok f.listed) ≡ Ok m → Enters r (table_front false t l) (all_spans t xs)
+        → Adds l.entries m.entries (all_spans t xs)
+    by (Ok f) is adds = let same : f.listed ≡ m = cc in subst (λ (k : Listed). Adds l.entries k.entries (all_spans t xs)) same adds.0
+    by (Err e) is adds = absurd cc
+
 -- ---- the tables, and the whole load
 
 table_adds : (any : Bool) (t : ℕ) (l : Listed) (code : List ℕ) (xs : Trees) (m : Listed) → ReadsOne any t l code xs m
@@ -223,7 +354,7 @@ table_adds : (any : Bool) (t : ℕ) (l : Listed) (code : List ℕ) (xs : Trees) 
 table_adds false t l code xs m (law, is) = module_adds t l code xs m law is
 table_adds true t l code xs m (k, reads, same) =
     subst (λ (n : Listed). Adds l.entries n.entries (all_spans t xs)) same
-    (terms_add t code 512 positions.RunTerm 0 (length code) (table_front t l) xs k refl reads)
+    (terms_add t code 512 positions.RunTerm 0 (length code) (table_front true t l) xs k refl reads)
 
 tables_add : (any : Bool) (t : ℕ) (l : Listed) (codes : List (List ℕ)) (trees : List Trees) (m : Listed)
     → ReadTables any t l codes trees m

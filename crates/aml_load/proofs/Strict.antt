@@ -19,9 +19,11 @@ use Rattle.aml_namespace.specs.Namespace.{declared_at}
 use Rattle.aml_namespace.specs.Runs.{is_open_alias, AreSure, StaysAsItIs, times_at}
 use Rattle.aml_namespace.proofs.Strict.{never_open}
 use Rattle.aml_load.specs.declared.faults.LoadFault.{LoadFault}
-use Rattle.aml_load.specs.Declaring.{◌>>=◌, strict, Listed, first_listed, with_uses, byte_of, first_label, most_methods}
+use Rattle.aml_load.specs.Declaring.{◌>>=◌, Listed, first_listed, with_uses, byte_of, first_label, most_methods}
 use Rattle.aml_load.specs.Declaring.{place_at, lead_at, entry_at, new_at, method_at, alias_at, external_at, units_at}
-use Rattle.aml_load.specs.Declaring.{declare_as, declare, declare_inside, declare_all}
+use Rattle.aml_load.specs.Running.{Front, table_front, opened_at, object_at, scope_at, flat_at, enter_as, entered_at}
+use Rattle.aml_load.specs.Running.{behind_tree, behind_inside, behind_trees}
+use Rattle.aml_load.proofs.Doing.{entry_is, site_in, front_in}
 use Rattle.aml_load.specs.Loading.{role_of, kind_of, Where, methods_of, plain_entry}
 use Rattle.aml_load.specs.Tables.{ReadTables, LoadsStrictly}
 use Rattle.aml_load.proofs.Relating.{loads_so}
@@ -132,6 +134,9 @@ unless_keeps : (b : Bool) (d : LoadFault) (r : Result Listed LoadFault) → (b �
 unless_keeps true d r h = tt
 unless_keeps false d r h = h refl
 
+abbrev strict : ℕ → List Seg → Where
+strict t s = site_in false t s true
+
 module _ (t : ℕ) (scope : List Seg) where
   entry_keeps : (l : Listed) (p : List Seg) (k : Kind) (b : Option Body) → IsClosed k → Plain l.entries
       → Keeps (entry_at (strict t scope) l p (declares p k b true))
@@ -152,48 +157,83 @@ module _ (t : ℕ) (scope : List Seg) where
       (new_keeps l (Some n) (λ p. kinds.Field) (λ p. None) (λ p. refl) h)
       (λ m. units_keep m ns)
 
-  role_keeps : (r : Role) (l : Listed) (ps : Parts) (x : Tail) (inside : Listed → Where → Result Listed LoadFault)
-      → Plain l.entries
-      → ((m : Listed) (p : List Seg) → Plain m.entries → Keeps (inside m (strict t p)))
-      → Keeps (declare_as r (strict t scope) l ps x inside)
-  unfolding declare_as method_at alias_at external_at
-  role_keeps (roles.Declares o) l ps x inside h more = then_keeps (place_at (strict t scope) (last_label None ps)) _ (λ p.
-      more_keeps (entry_at (strict t scope) l p (plain_entry (strict t scope) l.entries (kind_of o) p)) _
-      (entry_keeps l p (kind_of o) None (object_closed o) h) (λ m. more m p))
-  role_keeps roles.Method l ps x inside h more = unless_keeps (nat_le most_methods (length (methods_of l.entries))) _ _ (λ room.
+  flat_keeps : (r : Role) (l : Listed) (ps : Parts) (x : Tail) → Plain l.entries → Keeps (flat_at r (strict t scope) l ps x)
+  unfolding flat_at method_at alias_at external_at
+  flat_keeps roles.Method l ps x h = unless_keeps (nat_le most_methods (length (methods_of l.entries))) _ _ (λ room.
       new_keeps l (last_label None ps) (λ p. kinds.Method _) (λ p. Some _) (λ p. refl) h)
-  role_keeps roles.Scope l ps x inside h more = then_keeps (lead_at (strict t scope) l.entries (last_label None ps) _) _ (λ p. more l p h)
-  role_keeps roles.Alias l ps x inside h more =
+  flat_keeps roles.Alias l ps x h =
       then_keeps (lead_at (strict t scope) l.entries (first_label ps) _) _ (λ q.
       new_keeps l (last_label None ps) (λ p. kinds.Alias _ _) (λ p. None) (λ p. ap not (never_open l.entries h.sure q)) h)
-  role_keeps roles.External l ps x inside h more =
+  flat_keeps roles.External l ps x h =
       then_keeps (place_at (strict t scope) (last_label None ps)) _ (λ p. external_plain l.entries p (byte_of ps) h)
-  role_keeps roles.Fields l ps x inside h more = units_keep l (field_names x) h
-  role_keeps roles.Guard l ps x inside h more = more l scope h
-  role_keeps roles.Other l ps x inside h more = h
+  flat_keeps roles.Fields l ps x h = units_keep l (field_names x) h
+  flat_keeps _ l ps x h = h
 
 -- ---- terms, tables, and the whole load
 
+then_if : {A B : Type 0} (F : A → Type 0) (G : B → Type 0) (r : Result A LoadFault) (k : A → Result B LoadFault)
+    → IfOk r F → ((x : A) → F x → IfOk (k x) G) → IfOk (r >>= k) G
+then_if F G (Ok x) k h g = g x h
+then_if F G (Err e) k h g = tt
+
+then_is : {A B : Type 0} (G : B → Type 0) (r : Result A LoadFault) (k : A → Result B LoadFault)
+    → ((x : A) → r ≡ Ok x → IfOk (k x) G) → IfOk (r >>= k) G
+then_is G (Ok x) k g = g x refl
+then_is G (Err e) k g = tt
+
 module _ (t : ℕ) where
+  abbrev here : List Seg → Listed → Front
+  here s l = front_in false t s true l
+
+  -- what stands in front of terms is so, and each declaration there is sure
+  abbrev Good : Front → Type 0
+  Good g = Plain g.listed.entries × ((s : List Seg) × (g.site ≡ strict t s))
+
+  abbrev GoodAt : List Seg → Front → Type 0
+  GoodAt s g = Plain g.listed.entries × (g.site ≡ strict t s)
+
+  same_front : (g : Front) (s : List Seg) → g.site ≡ strict t s → here s g.listed ≡ g
+  same_front g s is = λ i. record { listed = g.listed; site = sym is i }
+
+  enter_keeps : (r : Role) (s : List Seg) (l : Listed) (ps : Parts) (x : Tail) → Plain l.entries
+      → IfOk (enter_as r (here s l) ps x) Good
+  unfolding enter_as object_at scope_at flat_at
+  enter_keeps (roles.Declares o) s l ps x h =
+      then_is Good (place_at (strict t s) (last_label None ps)) _ (λ p at.
+      let entry = plain_entry (strict t s) l.entries (kind_of o) p in
+      then_is Good (entry_at (strict t s) l p entry) _ (λ m is.
+      let new = entry_is (strict t s) l p entry m is in (
+        subst Keeps is (entry_keeps t s l p (kind_of o) None (object_closed o) h),
+        (p, ap (λ (k : Option Kind). site_in false t p (not (is_some k))) (new.0 refl)),
+      )))
+  enter_keeps roles.Scope s l ps x h =
+      then_is Good (opened_at (strict t s) l.entries (last_label None ps)) _ (λ p at. (h, (p, refl)))
+  enter_keeps roles.Guard s l ps x h = (h, (s, refl))
+  enter_keeps roles.Other s l ps x h = (h, (s, refl))
+  enter_keeps r s l ps x h =
+      then_if (λ (m : Listed). Plain m.entries) Good (flat_at r (strict t s) l ps x) _ (flat_keeps t s r l ps x h) (λ m plain. (plain, (s, refl)))
+
   mutual
-    unfolding declare declare_inside declare_all
+    unfolding behind_tree behind_inside behind_trees entered_at
 
-    tree_keeps : (scope : List Seg) (l : Listed) (x : Tree) → Plain l.entries → Keeps (declare (strict t scope) l x)
-    tree_keeps scope l (op o w ps r) h =
-        role_keeps t scope (role_of o) (with_uses (strict t scope) l (op o w ps r)) ps r (λ l below. declare_inside below l r) h
-        (λ m p. inside_keeps p m r)
-    tree_keeps scope l _ h = h
+    tree_keeps : (s : List Seg) (l : Listed) (x : Tree) → Plain l.entries → IfOk (behind_tree (here s l) x) (GoodAt s)
+    tree_keeps s l (op o w ps r) h =
+        then_if Good (GoodAt s) (enter_as (role_of o) (here s (with_uses (strict t s) l (op o w ps r))) ps r) _
+        (enter_keeps (role_of o) s (with_uses (strict t s) l (op o w ps r)) ps r h) (λ inner (plain, (d, site)).
+        then_if (GoodAt d) (GoodAt s) (behind_inside inner r) _
+        (subst (λ (f : Front). IfOk (behind_inside f r) (GoodAt d)) (same_front inner d site) (inside_keeps d inner.listed r plain))
+        (λ ended good. (good.0, refl)))
+    tree_keeps s l _ h = (h, refl)
 
-    inside_keeps : (scope : List Seg) (l : Listed) (x : Tail) → Plain l.entries
-        → Keeps (declare_inside (strict t scope) l x)
-    inside_keeps scope l (terms xs) h = all_keep scope l xs h
-    inside_keeps scope l _ h = h
+    inside_keeps : (s : List Seg) (l : Listed) (x : Tail) → Plain l.entries → IfOk (behind_inside (here s l) x) (GoodAt s)
+    inside_keeps s l (terms xs) h = all_keep s l xs h
+    inside_keeps s l _ h = (h, refl)
 
-    all_keep : (scope : List Seg) (l : Listed) (xs : Trees) → Plain l.entries
-        → Keeps (declare_all (strict t scope) l xs)
-    all_keep scope l no_trees h = h
-    all_keep scope l (tree_more x xs) h =
-        more_keeps (declare (strict t scope) l x) _ (tree_keeps scope l x h) (λ m. all_keep scope m xs)
+    all_keep : (s : List Seg) (l : Listed) (xs : Trees) → Plain l.entries → IfOk (behind_trees (here s l) xs) (GoodAt s)
+    all_keep s l no_trees h = (h, refl)
+    all_keep s l (tree_more x xs) h =
+        then_if (GoodAt s) (GoodAt s) (behind_tree (here s l) x) _ (tree_keeps s l x h) (λ g good.
+        subst (λ (f : Front). IfOk (behind_trees f xs) (GoodAt s)) (same_front g s good.1) (all_keep s g.listed xs good.0))
 
 tables_keep : (t : ℕ) (l : Listed) (codes : List (List ℕ)) (trees : List Trees) (m : Listed) → Plain l.entries
     → ReadTables false t l codes trees m
@@ -202,7 +242,8 @@ tables_keep t l [] [] m h read = subst (λ (k : Listed). Plain k.entries) read h
 tables_keep t l [] (xs ∷ rest) m h read = absurd read
 tables_keep t l (c ∷ codes) [] m h read = absurd read
 tables_keep t l (c ∷ codes) (xs ∷ rest) m h (k, (law, is), read) =
-    tables_keep (suc t) k codes rest m (subst Keeps is (all_keep t [] l xs h)) read
+    tables_keep (suc t) k codes rest m (subst Keeps is (then_if (GoodAt t []) (λ (n : Listed). Plain n.entries)
+    (behind_trees (table_front false t l) xs) (λ f. Ok f.listed) (all_keep t [] l xs h) (λ f good. good.0))) read
 
 given_sure : (gs : Givens) → AreSure (given_entries gs)
 given_sure [] = tt

@@ -1,5 +1,5 @@
--- A stepping stone: what the terms of tables declare, one after the other, and the fault at which a load stops (ACPI
--- 6.5, 5.2.11, 5.3, 20.2.5.1 and 20.2.5.2), as `Loading` says it without faults. What faults are goes by it.
+-- A stepping stone: the names that are asked in terms, the steps by which a term declares, and the fault at which each
+-- stops (ACPI 6.5, 5.2.11, 5.3, 20.2.5.1 and 20.2.5.2), as `Loading` says it without faults. What faults are goes by it.
 use Rattle.std.specs.Prelude.{ℕ, Option, Some, None, Bool, true, false, List, [], ◌∷◌, ◌++◌, ◌≡◌, length}
 use Rattle.std.specs.Prelude.{Result, Ok, Err, is_some, nat_le, if◌then◌else◌, cond, not, ◌&&◌, ◌||◌, nat_eq}
 use Rattle.std.specs.Option.{unwrap_or, option_map, option_and_then, option_eq, ok_or}
@@ -11,14 +11,12 @@ use Rattle.aml_names.specs.declared.names.Name.{Name}
 use Rattle.aml_names.specs.Names.{placed}
 use Rattle.aml_code.specs.declared.rows.PartKind.{PartKind}
 use Rattle.aml_code.specs.declared.rows.PartKind.TheVariants as part_kinds
-use Rattle.aml_code.specs.declared.rows.Role.{Role}
-use Rattle.aml_code.specs.declared.rows.Role.TheVariants as roles
 use Rattle.aml_code.specs.Faults.{StandsAt}
-use Rattle.aml_code.specs.Lawful.{last_label, last_byte, field_names, no_arguments, ReadsModule}
+use Rattle.aml_code.specs.Lawful.{last_byte, no_arguments, ReadsModule}
 use Rattle.aml_code.specs.Opcodes.{row_of}
 use Rattle.aml_code.specs.Tree.{Tree, nothing, named, op, Trees, no_trees, tree_more, Part, child, Parts}
 use Rattle.aml_code.specs.Tree.{part_more, Tail, elements, fields, Field, connection, Fields, no_fields, field_more}
-use Rattle.aml_code.specs.Tree.{buffer, label, terms, body, tree_count}
+use Rattle.aml_code.specs.Tree.{buffer, label, body, tree_count}
 use Rattle.aml_space.specs.declared.faults.SpaceFault.{SpaceFault}
 use Rattle.aml_space.specs.declared.faults.SpaceFault.TheVariants as faults
 use Rattle.aml_namespace.specs.declared.kinds.Kind.TheVariants as kinds
@@ -27,18 +25,8 @@ use Rattle.aml_namespace.specs.Namespace.{target_by}
 use Rattle.aml_namespace.specs.Runs.{outlook_of, agreed_arity}
 use Rattle.aml_load.specs.declared.faults.LoadFault.{LoadFault}
 use Rattle.aml_load.specs.declared.faults.LoadFault.TheVariants as loads
-use Rattle.aml_load.specs.Loading.{Where, role_of, kind_of, in_declaration, plain_entry, method_entry, leads}
+use Rattle.aml_load.specs.Loading.{Where, in_declaration, plain_entry, method_entry, leads}
 use Rattle.aml_load.specs.Loading.{alias_entry, methods_of}
-
--- ---- Where a term stands.
-
--- in this scope of table t, where the code outside methods may not run
-abbrev pub strict : ℕ → List Seg → Where
-strict t scope = record { table = t; scope = scope; any_run = false; sure = true }
-
--- the same with another scope
-abbrev pub under : Where → List Seg → Where
-under site p = record site { scope = p }
 
 -- ---- The names that stand as TermArgs in a term of a table, or as a term, outside the terms inside it, each with the
 -- number of arguments that was read with it (ACPI 6.5, 20.2.5).
@@ -202,43 +190,6 @@ units_at site l [] = Ok l
 units_at site l (n ∷ ns) = do
   k ← new_at site l (Some n) (plain_entry site l.entries kinds.Field)
   units_at site k ns
-
--- What a term does by its role, at a site, after l. `inside` is what the terms inside it declare, after what is listed
--- then and at their site.
-unfoldable pub declare_as : Role → Where → Listed → Parts → Tail → (Listed → Where → Result Listed LoadFault)
-    → Result Listed LoadFault
-declare_as (roles.Declares o) site l ps r inside = do
-  p ← place_at site (last_label None ps)
-  m ← entry_at site l p (plain_entry site l.entries (kind_of o) p)
-  inside m (under site p)
-declare_as roles.Method site l ps r inside = method_at site l (last_label None ps) (byte_of ps) (body_span r)
-declare_as roles.Scope site l ps r inside = do
-  p ← lead_at site l.entries (last_label None ps) (λ p. faults.ScopeMissing p)
-  inside l (under site p)
-declare_as roles.Alias site l ps r inside = alias_at site l (first_label ps) (last_label None ps)
-declare_as roles.External site l ps r inside = external_at site l (last_label None ps) (byte_of ps)
-declare_as roles.Fields site l ps r inside = units_at site l (field_names r)
-declare_as roles.Guard site l ps r inside = inside l site
-declare_as roles.Other site l ps r inside = Ok l
-
-unfoldable mutual
-  -- a term at a site, after l: the names that stand in it as TermArgs, and then what it does by its role
-  pub declare : Where → Listed → Tree → Result Listed LoadFault
-  declare site l (op o w ps r) =
-      declare_as (role_of o) site (with_uses site l (op o w ps r)) ps r (λ l below. declare_inside below l r)
-  declare site l _ = Ok l
-
-  -- the terms inside a term
-  pub declare_inside : Where → Listed → Tail → Result Listed LoadFault
-  declare_inside site l (terms ts) = declare_all site l ts
-  declare_inside site l _ = Ok l
-
-  -- terms, in the order of the text
-  pub declare_all : Where → Listed → Trees → Result Listed LoadFault
-  declare_all site l no_trees = Ok l
-  declare_all site l (tree_more x xs) = do
-    k ← declare site l x
-    declare_all site k xs
 
 -- ---- The names outside methods, once all entries are there.
 

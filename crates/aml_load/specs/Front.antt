@@ -1,31 +1,25 @@
 -- A stepping stone: a term whose code may run, as it was told without the terms inside it, and what it does by what was
 -- heard of it.
-use Rattle.std.specs.Prelude.{◌≡◌, ℕ, [], ◌∷◌, cond, Option, Some, None, Result, Ok}
+use Rattle.std.specs.Prelude.{◌≡◌, [], ◌∷◌, cond, None, Ok}
 use Rattle.std.specs.Option.{option_map, unwrap_or}
 use Rattle.aml_code.specs.Faults.{Arities}
 use Rattle.aml_code.specs.Lawful.{ReadsStep, next_position}
 use Rattle.aml_code.specs.Tree.{Tree}
-use Rattle.aml_code.specs.declared.rows.Role.{Role}
-use Rattle.aml_code.specs.declared.rows.Role.TheVariants as roles
 use Rattle.aml_parse.specs.Reading.{step_at}
 use Rattle.aml_parse.specs.declared.step.Behind.{Behind}
 use Rattle.aml_parse.specs.declared.step.StepAt.{StepAt}
 use Rattle.aml_namespace.specs.Known.{Known}
-use Rattle.aml_load.specs.Declaring.{◌>>=◌, term_uses}
+use Rattle.aml_load.specs.Declaring.{term_uses}
 use Rattle.aml_load.specs.Groups.{uses_of}
-use Rattle.aml_load.specs.Hearing.{Head}
+use Rattle.aml_load.specs.Hearing.{head_enters}
 use Rattle.aml_load.specs.Hearing as hearing
-use Rattle.aml_load.specs.Loading.{kind_of}
 use Rattle.aml_load.specs.HearingViews.{head_view}
-use Rattle.aml_load.specs.Running.{Front, asked, entered_at, in_block, object_at, scope_at}
+use Rattle.aml_load.specs.Running.{Front, asked, entered_at}
 use Rattle.aml_load.specs.Runner.{span_inside}
 use Rattle.aml_load.specs.Walking.{at_site}
 use Rattle.aml_load.specs.declared.opening.Opened.{Opened}
 use Rattle.aml_load.specs.declared.ears.Around.TheVariants as kept
 use Rattle.aml_load.specs.declared.ears.Ears.{Ears}
-use Rattle.aml_load.specs.declared.ears.Shape.{Shape}
-use Rattle.aml_load.specs.declared.ears.Shape.TheVariants as shapes
-use Rattle.aml_load.specs.declared.faults.LoadFault.{LoadFault}
 use Rattle.aml_load.specs.declared.sites.Site.{Site}
 
 -- before a term at a site, of which nothing was told
@@ -39,25 +33,6 @@ HasBegun e = (s : Site) × HasBegunAt e s
 abbrev pub IsRead : Arities → StepAt → Behind → Tree → Type 0
 IsRead arity s x t = ReadsStep arity s.levels s.position s.code.now s.at s.end t x.at
     × ((step_at arity s.levels s.position s.code.now s.at s.end ≡ Ok (t, x.at)) × (x.position ≡ next_position s.position t))
-
--- What a term does by its role, as `enter_as` of `Running` says it of its parts.
-unfoldable pub enters_as : Role → Head → Front → ℕ × ℕ → Result Front LoadFault
-enters_as (roles.Declares o) h f span = object_at f h.last (kind_of o)
-enters_as roles.Scope h f span = scope_at f h.last
-enters_as roles.Guard h f span = Ok (in_block f)
-enters_as roles.Other h f span = Ok (in_block f)
-enters_as role h f span = do
-  m ← hearing.enter_as role h f.listed span
-  Ok (record f { listed = m.0 })
-
--- a name that is a term does nothing
-unfoldable pub enters_by : Shape → Head → Front → ℕ × ℕ → Result Front LoadFault
-enters_by shapes.Call h f span = Ok f
-enters_by _ h f span = enters_as h.role h f span
-
-unfoldable pub head_enters : Option Head → Front → ℕ × ℕ → Result Front LoadFault
-head_enters None f span = Ok f
-head_enters (Some h) f span = enters_by h.shape h f span
 
 -- Of this term all was heard at a site: the names that were asked, its head, and its tail.
 pub record IsHeard (k : Known) (s : Site) (e : Ears) (o : Opened) (t : Tree) : Type 0 where

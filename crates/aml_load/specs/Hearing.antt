@@ -15,12 +15,11 @@ use Rattle.aml_code.specs.declared.rows.TailKind.{TailKind}
 use Rattle.aml_code.specs.declared.rows.TailKind.TheVariants as tails
 use Rattle.aml_load.specs.declared.ears.Shape.{Shape}
 use Rattle.aml_load.specs.declared.ears.Shape.TheVariants as shapes
-use Rattle.aml_space.specs.declared.faults.SpaceFault.TheVariants as faults
 use Rattle.aml_load.specs.declared.faults.LoadFault.{LoadFault}
-use Rattle.aml_load.specs.Declaring.{◌>>=◌, Listed, Use, use_of, is_argument, kinds_in, under, body_span, place_at, lead_at, entry_at}
+use Rattle.aml_load.specs.Declaring.{◌>>=◌, Listed, Use, use_of, is_argument, kinds_in, body_span}
 use Rattle.aml_load.specs.Declaring.{method_at, alias_at, external_at, units_at}
-use Rattle.aml_namespace.specs.Kinds.{Kind}
-use Rattle.aml_load.specs.Loading.{Where, declares_by, kind_of, plain_entry}
+use Rattle.aml_load.specs.Loading.{Where, declares_by, kind_of}
+use Rattle.aml_load.specs.Running.{Front, in_block, listing, object_at, scope_at}
 
 -- What was told so far of a term of a list: where it stands, whether it is a declaration, its shape and its role;
 -- whether a part was told, and the first one, if that is a name; the last name and the last byte among the parts; and
@@ -119,37 +118,33 @@ noted (label n) = label n
 noted (byte b) = byte b
 noted _ = child nothing
 
--- what a term does that declares an object of this kind
-unfoldable pub enter_kind : Head → Listed → Kind → Result (Listed × Option Where) LoadFault
-enter_kind h l kind = do
-  p ← place_at h.site h.last
-  m ← entry_at h.site l p (plain_entry h.site l.entries kind p)
-  Ok (m, Some (under h.site p))
+-- What a term does by its role, as `flat_at` and `enter_as` of `Running` say it of its parts, with the span of its body.
+unfoldable pub flat_by : Role → Head → Where → Listed → ℕ × ℕ → Result Listed LoadFault
+flat_by roles.Method h site l span = method_at site l h.last (unwrap_or h.byte 0) span
+flat_by roles.Alias h site l span = alias_at site l h.source h.last
+flat_by roles.External h site l span = external_at site l h.last (unwrap_or h.byte 0)
+flat_by roles.Fields h site l span = units_at site l h.units
+flat_by role h site l span = Ok l
 
--- What a term of this role does by its head, with the span of its body; and where the terms inside it stand, if they
--- declare.
-unfoldable pub enter_as : Role → Head → Listed → ℕ × ℕ → Result (Listed × Option Where) LoadFault
-enter_as (roles.Declares o) h l span = enter_kind h l (kind_of o)
-enter_as roles.Scope h l span = do
-  p ← lead_at h.site l.entries h.last (λ p. faults.ScopeMissing p)
-  Ok (l, Some (under h.site p))
-enter_as roles.Guard h l span = Ok (l, Some h.site)
-enter_as roles.Other h l span = Ok (l, None)
-enter_as roles.Method h l span = do
-  m ← method_at h.site l h.last (unwrap_or h.byte 0) span
-  Ok (m, None)
-enter_as roles.Alias h l span = do
-  m ← alias_at h.site l h.source h.last
-  Ok (m, None)
-enter_as roles.External h l span = do
-  m ← external_at h.site l h.last (unwrap_or h.byte 0)
-  Ok (m, None)
-enter_as roles.Fields h l span = do
-  m ← units_at h.site l h.units
-  Ok (m, None)
+unfoldable pub enters_as : Role → Head → Front → ℕ × ℕ → Result Front LoadFault
+enters_as (roles.Declares o) h f span = object_at f h.last (kind_of o)
+enters_as roles.Scope h f span = scope_at f h.last
+enters_as roles.Guard h f span = Ok (in_block f)
+enters_as roles.Other h f span = Ok (in_block f)
+enters_as role h f span = listing f (flat_by role h f.site f.listed span)
 
-unfoldable pub enter : Head → Listed → ℕ × ℕ → Result (Listed × Option Where) LoadFault
-enter h l span = enter_as h.role h l span
+-- a name that is a term does nothing
+unfoldable pub enters_by : Shape → Head → Front → ℕ × ℕ → Result Front LoadFault
+enters_by shapes.Call h f span = Ok f
+enters_by _ h f span = enters_as h.role h f span
+
+unfoldable pub head_enters : Option Head → Front → ℕ × ℕ → Result Front LoadFault
+head_enters None f span = Ok f
+head_enters (Some h) f span = enters_by h.shape h f span
+
+-- the same of a term at its site
+abbrev pub enter : Head → Listed → ℕ × ℕ → Result Front LoadFault
+enter h l span = head_enters (Some h) (record { listed = l; site = h.site }) span
 
 -- ---- What stands around.
 
@@ -243,8 +238,8 @@ opened_by a o row x = opening (inside a (inner (kinds_in o))) x
 abbrev pub done_by : Option Head → ℕ × ℕ → Heard → Result Heard LoadFault
 done_by None span x = Ok x
 done_by (Some h) span x = do
-  y ← enter h x.listed span
-  Ok (record x { listed = y.0; term = None })
+  f ← enter h x.listed span
+  Ok (record x { listed = f.listed; term = None })
 
 -- behind the tail of an opcode
 abbrev pub closed : Heard → Heard
@@ -258,15 +253,11 @@ closed_by does (head ks) span x = do
 closed_by does a span x = Ok (closed x)
 
 -- the terms inside a term
-abbrev pub entered_by : Option Where → Around
-entered_by (Some site) = terms site
-entered_by None = nowhere
-
 abbrev pub inside_by : Option Head → Heard → Result Heard LoadFault
 inside_by None x = Ok (opening nowhere x)
 inside_by (Some h) x = do
-  y ← enter h x.listed (0, 0)
-  Ok (record { listed = y.0; term = None; around = entered_by y.1 ∷ x.around })
+  f ← enter h x.listed (0, 0)
+  Ok (record { listed = f.listed; term = None; around = terms f.site ∷ x.around })
 
 -- a list, by the opcode around it: the terms of a term of a list; or others
 abbrev pub is_own_terms : Around → TailKind → Bool
@@ -324,7 +315,7 @@ hear_all does (p ∷ ps) x = do
   hear_all does ps y
 
 -- what is heard behind the terms of a list, by what they declare
-abbrev pub behind_terms : Where → List Around → Result Listed LoadFault → Result Heard LoadFault
+abbrev pub behind_terms : Where → List Around → Result Front LoadFault → Result Heard LoadFault
 behind_terms site outer declared = do
-  l ← declared
-  Ok (record { listed = l; term = None; around = terms site ∷ outer })
+  f ← declared
+  Ok (record { listed = f.listed; term = None; around = terms site ∷ outer })

@@ -1,5 +1,5 @@
 -- A stepping stone: what is heard of a table's terms, as the code keeps it.
-use Rattle.std.specs.Prelude.{◌≡◌, ◌<◌, ℕ, Bool, List, [], ◌∷◌, true, Option, Some, None, Result, Ok, Err, drop, length, map, reverse, IfSome, IfOk, OnOk}
+use Rattle.std.specs.Prelude.{◌≡◌, ◌<◌, ℕ, Bool, List, [], ◌∷◌, true, false, Option, Some, None, Result, Ok, Err, drop, length, map, reverse, IfSome, IfOk, OnOk}
 use Rattle.std.specs.List.{AllByRecursion}
 use Rattle.std.specs.Option.{option_map, option_or}
 use Rattle.std.specs.Global.{Box}
@@ -7,15 +7,13 @@ use Rattle.std.specs.Coded.{×_prop, Unit-prop, le_prop}
 use Rattle.aml_code.specs.Lawful.{plain_name}
 use Rattle.aml_names.specs.declared.names.Name.{Name}
 use Rattle.aml_namespace.specs.Known.{Known, StandsFor}
-use Rattle.aml_load.specs.Declaring.{◌>>=◌, Listed, kinds_in, strict}
+use Rattle.aml_load.specs.Declaring.{◌>>=◌, Listed, kinds_in}
 use Rattle.aml_load.specs.Hearing.{Around, Head, Heard, catch, catch_all, hear, hear_all, enter, with_more, terms, run, head, inner}
 use Rattle.aml_load.specs.Hearing.{arguments, elements, units, nowhere}
 use Rattle.aml_load.specs.declared.groups.Group.{Group}
-use Rattle.aml_load.specs.Walking.{at_site, Holds}
+use Rattle.aml_load.specs.Walking.{at_site, root_at, Holds}
 use Rattle.aml_set.specs.declared.tables.TableSet.{TableSet}
 use Rattle.aml_set.specs.Views.{methods_of_set}
-use Rattle.aml_code.specs.declared.rows.Role.{Role}
-use Rattle.aml_code.specs.declared.rows.Role.TheVariants as roles
 use Rattle.aml_load.specs.Loading.{Where, methods_of}
 use Rattle.aml_load.specs.declared.sites.Site.{Site}
 use Rattle.aml_load.specs.declared.walking.Progress.{Progress}
@@ -118,31 +116,22 @@ StopsBy old step e = (l : Listed) → Holds old.progress l → Fails e (step (he
 
 -- ---- What a term does by its head.
 
-abbrev pub none_in : {X : Type 0} → Result X LoadFault → Result (Option Site) LoadFault
-none_in (Ok x) = Ok None
-none_in (Err e) = Err e
-
 -- what was made of the progress, and where the terms inside stand, if they declare
 abbrev pub Entered : Progress → Result (Option Site) LoadFault → Result (Listed × Option Where) LoadFault → Type 0
 Entered new (Ok s) step = (m : Listed) × Holds new m × (step ≡ Ok (m, option_map (at_site new.space) s))
 Entered new (Err e) step = Fails e step
 
--- the same of a term inside which no terms declare
-abbrev pub EntersFlat : Progress → Progress → Result (Option Site) LoadFault
-    → (Listed → Result (Listed × Option Where) LoadFault) → Role → Type 0
-EntersFlat old new answer step (roles.Declares o) = Unit {0}
-EntersFlat old new answer step roles.Scope = Unit {0}
-EntersFlat old new answer step roles.Guard = Unit {0}
-EntersFlat old new answer step role = (l : Listed) → Holds old l → Entered new answer (step l)
-
-abbrev pub EntersPlain : {X : Type 0} → Progress → Progress → Result X LoadFault
-    → (Listed → Result (Listed × Option Where) LoadFault) → Role → Type 0
-EntersPlain old new answer step role = EntersFlat old new (none_in answer) step role
+-- what stands around the terms inside
+abbrev pub entered_by : Option Where → Around
+entered_by None = nowhere
+entered_by (Some site) = terms site
 
 -- what the term that isn't told whole does, and where the terms inside it stand
 abbrev pub finish_by : Option Head → Listed → ℕ × ℕ → Result (Listed × Option Where) LoadFault
 finish_by None l span = Ok (l, None)
-finish_by (Some h) l span = enter h l span
+finish_by (Some h) l span = do
+  f ← enter h l span
+  Ok (f.listed, Some f.site)
 
 -- the term is told whole then, and around it stands what stood there
 pub record Finishes (old new : Hearing) (answer : Result (Option Site) LoadFault) (span : ℕ × ℕ) : Type 0 where
@@ -159,7 +148,7 @@ pub record Finishes (old new : Hearing) (answer : Result (Option Site) LoadFault
 
 -- before the first term of table t
 abbrev pub begun : ℕ → Listed → Heard
-begun t l = record { listed = l; term = None; around = terms (strict t []) ∷ [] }
+begun t l = record { listed = l; term = None; around = terms (root_at false t) ∷ [] }
 
 -- the scopes of what isn't stopped have numbers; and in one way
 abbrev pub HasNumbers : Hearing → Option LoadFault → Type 0

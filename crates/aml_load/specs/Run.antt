@@ -92,7 +92,7 @@ FailsTerms old s r code e = (l : Listed) → Holds old l → Fails e
 -- a whole table
 abbrev pub RunsTableTo : Progress → Progress → ℕ → List ℕ → Trees → Type 0
 RunsTableTo old new t code ts = (l : Listed) → Holds old l → (m : Listed) × Holds new m
-    × (run_table_at (run_names t) code (table_front t l) ≡ Ok (ts, front_at (root_at true t) m))
+    × (run_table_at (run_names t) code (table_front true t l) ≡ Ok (ts, front_at (root_at true t) m))
 
 abbrev pub FailsTable : Progress → ℕ → List ℕ → LoadFault → Type 0
-FailsTable old t code e = (l : Listed) → Holds old l → Fails e (run_table_at (run_names t) code (table_front t l))
+FailsTable old t code e = (l : Listed) → Holds old l → Fails e (run_table_at (run_names t) code (table_front true t l))

@@ -1,5 +1,5 @@
 -- A stepping stone: what a walk over terms found so far, and what a step of it gives, as `Standing` says it.
-use Rattle.std.specs.Prelude.{◌≡◌, ℕ, suc, Bool, true, false, List, [], ◌∷◌, ◌++◌, ◌<◌, length, map, Option, Some, Result}
+use Rattle.std.specs.Prelude.{◌≡◌, ℕ, suc, Bool, List, [], ◌∷◌, ◌++◌, ◌<◌, length, map, Result}
 use Rattle.std.specs.Prelude.{Ok, Err}
 use Rattle.std.specs.Option.{unwrap_or}
 use Rattle.aml_code.specs.Tree.{Tree, op, Trees, no_trees, tree_more, Tail, terms}
@@ -8,16 +8,14 @@ use Rattle.aml_load.specs.declared.faults.LoadFault.{LoadFault}
 use Rattle.aml_load.specs.declared.standing.StandingTerm.{StandingTerm}
 use Rattle.aml_load.specs.declared.walking.Progress.{Progress}
 use Rattle.aml_namespace.specs.Namespace.{Givens}
-use Rattle.aml_load.specs.Declaring.{◌>>=◌, strict, Listed, first_listed, declare_all}
-use Rattle.aml_load.specs.Front.{head_enters}
-use Rattle.aml_load.specs.Hearing.{Head, head_at}
-use Rattle.aml_load.specs.HearingViews.{finish_by}
+use Rattle.aml_load.specs.Declaring.{◌>>=◌, Listed, first_listed}
+use Rattle.aml_load.specs.Hearing.{head_at, head_enters}
 use Rattle.aml_load.specs.Opening.{tail_of}
 use Rattle.aml_load.specs.Runner.{front_at}
 use Rattle.aml_load.specs.Loading.{Where}
 use Rattle.aml_namespace.specs.Known.{Known, path_at}
 use Rattle.std.specs.List.{AllByRecursion}
-use Rattle.aml_load.specs.Running.{behind_tables}
+use Rattle.aml_load.specs.Running.{Front, behind_tables}
 use Rattle.aml_load.specs.Standing.{◌>>>◌, Standing, stands}
 use Rattle.aml_load.specs.Tables.{Fails}
 use Rattle.aml_load.specs.Walking.{root_at, Holds}
@@ -53,46 +51,27 @@ abbrev pub Finds : {X : Type 0} → Progress → Progress → List StandingTerm 
 Finds old new before after answer walk list =
     (l : Listed) → Holds old l → AreStanding old.space before → Found old new before after answer (walk l) (list l)
 
--- declaring what the tables from number t on declare, each table from the root
-unfoldable pub declare_tables : ℕ → Listed → List Trees → Result Listed LoadFault
-declare_tables t l [] = Ok l
-declare_tables t l (ts ∷ rest) = do
-  k ← declare_all (strict t []) l ts
-  declare_tables (suc t) k rest
-
--- what a set of trees declares, whose code outside methods may run or may not, or the fault at which that stops
-abbrev pub declares_by : Bool → Listed → List Trees → Result Listed LoadFault
-declares_by false l trees = declare_tables 0 l trees
-declares_by true l trees = behind_tables 0 l trees
-
--- where the user gives these counts
+-- what a set of trees declares, where the user gives these counts, or the fault at which that stops
 abbrev pub set_declares : Bool → Givens → List Trees → Result Listed LoadFault
-set_declares any_run gs trees = declares_by any_run (first_listed gs) trees
+set_declares any_run gs trees = behind_tables any_run 0 (first_listed gs) trees
 
--- ---- The walk over terms, in one way whether the code outside methods may run or may not. Names that are asked play no
--- part in it.
+-- ---- The walk over terms by their heads. Names that are asked play no part in it.
 
--- what a term does by its head, with the span of its body, and where the terms inside it stand, if they declare
-abbrev pub enters_by : Bool → Option Head → Where → Listed → ℕ × ℕ → Result (Listed × Option Where) LoadFault
-enters_by false h site l span = finish_by h l span
-enters_by true h site l span = do
-  f ← head_enters h (front_at site l) span
-  Ok (f.listed, Some f.site)
-
-abbrev pub enters_at : Where → Listed → Tree → Result (Listed × Option Where) LoadFault
-enters_at site l t = enters_by site.any_run (head_at site t) site l (unwrap_or (tail_of t) (0, 0))
+-- what a term does by its head, with the span of its body, and where the terms inside it stand
+abbrev pub enters_at : Where → Listed → Tree → Result Front LoadFault
+enters_at site l t = head_enters (head_at site t) (front_at site l) (unwrap_or (tail_of t) (0, 0))
 
 -- what terms and those inside them declare
 unfoldable mutual
   pub walk : Where → Listed → Tree → Result Listed LoadFault
   walk site l (op o w ps r) = do
-    y ← enters_at site l (op o w ps r)
-    walk_inside y.1 y.0 r
+    f ← enters_at site l (op o w ps r)
+    walk_inside f.site f.listed r
   walk site l _ = Ok l
 
-  pub walk_inside : Option Where → Listed → Tail → Result Listed LoadFault
-  walk_inside (Some site) l (terms ts) = walk_all site l ts
-  walk_inside _ l _ = Ok l
+  pub walk_inside : Where → Listed → Tail → Result Listed LoadFault
+  walk_inside site l (terms ts) = walk_all site l ts
+  walk_inside site l _ = Ok l
 
   pub walk_all : Where → Listed → Trees → Result Listed LoadFault
   walk_all site l no_trees = Ok l
@@ -104,23 +83,23 @@ unfoldable mutual
 unfoldable mutual
   pub met : Where → Listed → Tree → List Standing
   met site l (op o w ps r) =
-      stands site (op o w ps r) ∷ (enters_at site l (op o w ps r) >>> λ y. met_inside y.1 y.0 r)
+      stands site (op o w ps r) ∷ (enters_at site l (op o w ps r) >>> λ f. met_inside f.site f.listed r)
   met site l t = stands site t ∷ []
 
-  pub met_inside : Option Where → Listed → Tail → List Standing
-  met_inside (Some site) l (terms ts) = met_all site l ts
-  met_inside _ l _ = []
+  pub met_inside : Where → Listed → Tail → List Standing
+  met_inside site l (terms ts) = met_all site l ts
+  met_inside site l _ = []
 
   pub met_all : Where → Listed → Trees → List Standing
   met_all site l no_trees = []
   met_all site l (tree_more x xs) = met site l x ++ (walk site l x >>> λ k. met_all site k xs)
 
 -- the terms inside a term
-abbrev pub walk_within : Option Where → Listed → Tree → Result Listed LoadFault
+abbrev pub walk_within : Where → Listed → Tree → Result Listed LoadFault
 walk_within site l (op o w ps r) = walk_inside site l r
 walk_within site l _ = Ok l
 
-abbrev pub met_within : Option Where → Listed → Tree → List Standing
+abbrev pub met_within : Where → Listed → Tree → List Standing
 met_within site l (op o w ps r) = met_inside site l r
 met_within site l _ = []
 

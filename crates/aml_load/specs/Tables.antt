@@ -20,10 +20,10 @@ use Rattle.aml_set.specs.declared.loaded.Loaded.{Loaded}
 use Rattle.aml_set.specs.declared.tables.TableSet.{TableSet}
 use Rattle.aml_load.specs.declared.faults.LoadFault.{LoadFault}
 use Rattle.aml_load.specs.declared.faults.LoadFault.TheVariants as loads
-use Rattle.aml_load.specs.Declaring.{◌>>=◌, strict, Listed, Use, first_listed, declare_all, use_count, uses_at}
+use Rattle.aml_load.specs.Declaring.{◌>>=◌, Listed, Use, first_listed, use_count, uses_at}
 use Rattle.aml_load.specs.Declaring.{code_fault, Unread, most_methods}
 use Rattle.aml_load.specs.Loading.{methods_of, LoadsTo}
-use Rattle.aml_load.specs.Running.{Front, table_front, run_names}
+use Rattle.aml_load.specs.Running.{Front, table_front, behind_table, run_names}
 use Rattle.aml_load.specs.Spans.{InTextOrder}
 use Rattle.aml_load.specs.Views.{HoldsLoad, HoldsTables}
 
@@ -32,8 +32,8 @@ use Rattle.aml_load.specs.Views.{HoldsLoad, HoldsTables}
 -- The AML of table t reads as these terms, with these lists in front of them and behind them: by themselves, and then
 -- they declare; or, where the code outside methods may run, each by what stands in front of it.
 abbrev pub ReadsOne : Bool → ℕ → Listed → List ℕ → Trees → Listed → Type 0
-ReadsOne false t l code ts m = ReadsModule code ts × (declare_all (strict t []) l ts ≡ Ok m)
-ReadsOne true t l code ts m = (k : Front) × ReadsTable (run_names t) code (table_front t l) ts k × (k.listed ≡ m)
+ReadsOne false t l code ts m = ReadsModule code ts × (behind_table false t l ts ≡ Ok m)
+ReadsOne true t l code ts m = (k : Front) × ReadsTable (run_names t) code (table_front true t l) ts k × (k.listed ≡ m)
 
 -- the tables from number t on read as these trees, each from the root, one after the other
 abbrev pub ReadTables : Bool → ℕ → Listed → List (List ℕ) → List Trees → Listed → Type 0
@@ -54,9 +54,9 @@ pub record ListsTo (any_run unknown_zero : Bool) (gs : Givens) (tables : List (L
 -- table t can't be read, or what its terms declare stops
 abbrev pub StopsOne : Bool → ℕ → Listed → List ℕ → LoadFault → Type 0
 StopsOne false t l code e = Unread t code e
-    ⊎ ((ts : Trees) × ReadsModule code ts × (declare_all (strict t []) l ts ≡ Err e))
+    ⊎ ((ts : Trees) × ReadsModule code ts × (behind_table false t l ts ≡ Err e))
 StopsOne true t l code e =
-    StopsTerms (run_names t) code most_levels positions.RunTerm 0 (length code) (table_front t l) e
+    StopsTerms (run_names t) code most_levels positions.RunTerm 0 (length code) (table_front true t l) e
 
 abbrev pub StopsTables : Bool → ℕ → Listed → List (List ℕ) → LoadFault → Type 0
 StopsTables any_run t l [] e = ⊥
@@ -81,10 +81,10 @@ in_code t (Err e) = Err (code_fault t e)
 unfoldable pub table_at : Bool → ℕ → Listed → List ℕ → Result (Trees × Listed) LoadFault
 table_at false t l code = do
   ts ← in_code t (all_at no_arguments None positions.ModuleTerm code)
-  m ← declare_all (strict t []) l ts
+  m ← behind_table false t l ts
   Ok (ts, m)
 table_at true t l code = do
-  x ← run_table_at (run_names t) code (table_front t l)
+  x ← run_table_at (run_names t) code (table_front true t l)
   Ok (x.0, x.1.listed)
 
 -- the tables from number t on, behind those of these trees: all trees, and what is listed after the last table

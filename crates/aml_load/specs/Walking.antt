@@ -2,7 +2,6 @@
 use Rattle.std.specs.Prelude.{◌≡◌, ◌⊎◌, ◌&&◌, Bool, true, false, not, List, [], ◌∷◌, ◌++◌, ◌<◌, length, Option, Some, None, Result, Ok}
 use Rattle.std.specs.Prelude.{Err, is_some, ℕ}
 use Rattle.aml_names.specs.declared.segments.Seg.{Seg}
-use Rattle.aml_space.specs.declared.faults.SpaceFault.{SpaceFault}
 use Rattle.aml_space.specs.declared.faults.SpaceFault.TheVariants as faults
 use Rattle.aml_namespace.specs.declared.kinds.Kind.{Kind as KindOf}
 use Rattle.aml_namespace.specs.Kinds.{Kind, kind_in, IsAmong}
@@ -15,7 +14,6 @@ use Rattle.aml_load.specs.declared.faults.LoadFault.{LoadFault}
 use Rattle.aml_load.specs.declared.faults.LoadFault.TheVariants as loads
 use Rattle.aml_load.specs.declared.sites.Site.{Site}
 use Rattle.aml_load.specs.declared.walking.Progress.{Progress}
-use Rattle.aml_load.specs.declared.walking.Sought.{Sought}
 use Rattle.aml_load.specs.Declaring.{Listed}
 use Rattle.aml_load.specs.Loading.{methods_of, Where, parent_of, sure_with}
 use Rattle.aml_load.specs.Groups.{AreKnown, uses_of}
@@ -25,11 +23,6 @@ use Rattle.aml_set.specs.Methods.{methods_in, AreNumbered}
 -- where a site is, by the paths that have numbers
 abbrev pub at_site : Known → Site → Where
 at_site k s = record { table = s.table; scope = path_at k s.scope; any_run = s.any_run; sure = s.sure }
-
--- the fault that nothing is there of what a name has to lead to
-abbrev pub missing : Sought → List Seg → SpaceFault
-missing Sought.Scope = λ p. faults.ScopeMissing p
-missing Sought.Source = λ p. faults.AliasMissing p
 
 -- where the first term of table t stands
 abbrev pub root_at : Bool → ℕ → Where

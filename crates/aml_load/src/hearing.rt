@@ -1,23 +1,17 @@
 //! What the terms of a table declare, as they are told.
-ghost use Rattle.std.specs.Prelude.{◌≡◌, [], ℕ, Option, Some, None, Ok, OnOk, IfOk, option_map, drop, true, false};
-ghost use Rattle.std.specs.Prelude.{length, ◌<◌, IfSome, IfErr};
+ghost use Rattle.std.specs.Prelude.{◌≡◌, Some, None, Ok, OnOk, option_map, drop, true, length, ◌<◌, IfSome, IfErr};
 ghost use Rattle.aml_code.specs.Pieces.{list as list_told, piece_view};
 ghost use Rattle.aml_namespace.specs.Known.{Known};
-ghost use Rattle.aml_load.specs.Declaring.{Listed};
-ghost use Rattle.aml_load.specs.Hearing.{hear, left, top, enter, enter_as, enter_kind, closed_by, done_by, inside_by};
-ghost use Rattle.aml_load.specs.Hearing.{entered_by, is_own_terms, catch};
-ghost use Rattle.aml_load.specs.HearingViews.{around_view, head_view, Hears, IsQuiet, StopsBy, IsNumbered, AreNumbered};
-ghost use Rattle.aml_load.specs.HearingViews.{Entered, EntersPlain, EntersFlat, Finishes};
-ghost use Rattle.aml_load.specs.Walking.{at_site, Holds, IsInside, IsPlain, Stays};
-ghost use Rattle.aml_namespace.specs.Kinds.{kind_in};
+ghost use Rattle.aml_load.specs.Hearing.{hear, left, top, closed_by, done_by, inside_by, is_own_terms, catch};
+ghost use Rattle.aml_load.specs.HearingViews.{around_view, Hears, IsQuiet, StopsBy, IsNumbered, AreNumbered};
+ghost use Rattle.aml_load.specs.HearingViews.{entered_by, Finishes};
+ghost use Rattle.aml_load.specs.Walking.{at_site};
 
 use crate::ears::{Around, Ears, Head};
 use crate::faults::LoadFault;
-use crate::roles::kind_of;
 use crate::sites::Site;
-use crate::walking::{Progress, Sought};
-use aml_code::{NoMemory, Piece, Role, TailKind};
-use aml_space::{Kind, PathId};
+use crate::walking::Progress;
+use aml_code::{NoMemory, Piece, TailKind};
 
 /// What is heard of the terms of a table, and what they declare.
 #[derive(Drop)]
@@ -37,9 +31,9 @@ impl Hearing {
         let Some(head) = &self.ears.head else {
             return Ok(None);
         };
-        let site = self.progress.enter_head(head, span)?;
+        let inner = self.progress.enter_head(&head.site, head, span)?;
         self.ears.head = None;
-        Ok(site)
+        Ok(Some(inner))
     }
 
     /// Behind the tail of an opcode, with the span of a body: a term of a list does then what it does.
@@ -158,95 +152,5 @@ fn is_own_terms(around: &Around, kind: TailKind) -> bool
     match (around, kind) {
         (Around::Head(..), TailKind::Terms) => true,
         _ => false,
-    }
-}
-
-#[tactic(auto, unfolding(crate::specs::Hearing::enter_as, crate::specs::Hearing::enter_kind))]
-impl Progress {
-    /// Declares an object of this kind, and says where the terms inside it stand.
-    fn enter_kind(&mut self, head: &Head, kind: Kind<PathId>) -> Result<Option<Site>, LoadFault>
-        requires inside { IsInside self.old head.now.site }
-        requires plain { IsPlain kind (kind_in [] kind) }
-        ensures enters { (l : Listed) → Holds self.old l → Entered self.new result
-            (enter_kind (head_view self.old.space head.now) l (kind_in [] kind)) }
-        ensures inside { IfOk result (λ site. IfSome site (IsInside self.new)) }
-        ensures stays { OnOk result (Stays self.old self.new) }
-    {
-        let path = self.own_path(&head.site, head.last())?;
-        self.declare(&head.site, &path, kind)?;
-        let site = head.site.under(self, &path, head.site.sure)?;
-        Ok(Some(site))
-    }
-
-    /// Says where the terms inside a Scope stand.
-    fn enter_opened(&mut self, head: &Head) -> Result<Option<Site>, LoadFault>
-        requires { IsInside self.old head.now.site }
-        ensures enters { (l : Listed) (span : ℕ × ℕ) → Holds self.old l → Entered self.new result
-            (enter_as Role.Scope (head_view self.old.space head.now) l span) }
-        ensures inside { IfOk result (λ site. IfSome site (IsInside self.new)) }
-        ensures stays { OnOk result (Stays self.old self.new) }
-    {
-        self.expect_search(&head.site, head.last());
-        let path = self.led_path(&head.site, head.last(), Sought::Scope)?;
-        let site = head.site.under(self, &path, head.site.sure)?;
-        Ok(Some(site))
-    }
-
-    /// Declares what a term declares in which no terms stand.
-    #[inline(always)]
-    pub fn enter_plain(&mut self, head: &Head, span: (u32, u32)) -> Result<(), LoadFault>
-        requires { IsInside self.old head.now.site }
-        ensures enters { EntersPlain self.old self.new result
-            (λ l. enter_as head.now.role (head_view self.old.space head.now) l span) head.now.role }
-        ensures stays { OnOk result (Stays self.old self.new) }
-    {
-        match head.role {
-            Role::Method => self.declare_one_method(
-                &head.site,
-                head.last(),
-                head.byte.unwrap_or(0),
-                span,
-            ),
-            Role::Alias => self.declare_one_alias(&head.site, head.source.as_ref(), head.last()),
-            Role::External => self.declare_external(
-                &head.site,
-                head.last(),
-                head.byte.unwrap_or(0),
-            ),
-            Role::Fields => self.add_segments(&head.site, head.units.as_slice()),
-            _ => Ok(()),
-        }
-    }
-
-    /// The same, and says that no terms inside it declare.
-    fn enter_flat_head(&mut self, head: &Head, span: (u32, u32)) -> Result<Option<Site>, LoadFault>
-        requires { IsInside self.old head.now.site }
-        ensures enters { EntersFlat self.old self.new result
-            (λ l. enter_as head.now.role (head_view self.old.space head.now) l span) head.now.role }
-        ensures inside { IfOk result (λ site. IfSome site (IsInside self.new)) }
-        ensures stays { OnOk result (Stays self.old self.new) }
-    {
-        self.enter_plain(head, span)?;
-        Ok(None)
-    }
-}
-
-#[tactic(auto, unfolding(crate::specs::Hearing::enter, crate::specs::Hearing::enter_as))]
-impl Progress {
-    /// Declares what a term declares by its head, with the span of its body, and says where the terms inside it stand,
-    /// if they declare.
-    pub fn enter_head(&mut self, head: &Head, span: (u32, u32)) -> Result<Option<Site>, LoadFault>
-        requires { IsInside self.old head.now.site }
-        ensures enters { (l : Listed) → Holds self.old l →
-            Entered self.new result (enter (head_view self.old.space head.now) l span) }
-        ensures inside { IfOk result (λ site. IfSome site (IsInside self.new)) }
-        ensures stays { OnOk result (Stays self.old self.new) }
-    {
-        match head.role {
-            Role::Declares(object) => self.enter_kind(head, kind_of(object)),
-            Role::Scope => self.enter_opened(head),
-            Role::Guard => Ok(Some(head.site)),
-            _ => self.enter_flat_head(head, span),
-        }
     }
 }

@@ -1,6 +1,6 @@
 //! The terms of a table whose code outside methods may run: each is told as it is read, and declares before the next one
 //! is read.
-ghost use Rattle.std.specs.Prelude.{◌≡◌, ◌≤◌, ◌++◌, ◌∷◌, [], List, Option, length, IfOk, IfErr, OnOk};
+ghost use Rattle.std.specs.Prelude.{◌≡◌, ◌≤◌, ◌++◌, ◌∷◌, [], List, Option, length, true, IfOk, IfErr, OnOk};
 ghost use Rattle.aml_code.specs.Pieces.{Told, deeper, line_pieces, pieces, line, end_of_line};
 ghost use Rattle.aml_code.specs.Tree.{Tree, Trees};
 ghost use Rattle.aml_load.specs.Front.{HasBegunAt, IsHeard};
@@ -91,6 +91,7 @@ impl Progress {
         ensures fails { (t : Tree) → IsHeard self.old.space site.now ears opened.now t →
             IfErr result (FailsEntering self.old site.now t) }
         ensures stays { OnOk result (Stays self.old self.new) }
+        ensures runs { IfOk result (λ x. x.inner.any_run ≡ site.now.any_run) }
     {
         self.keep_uses(&mut ears.uses)?;
         let is_block = ears.is_block();
@@ -115,10 +116,12 @@ impl Progress {
     ) -> Result<Front, LoadFault>
         requires room { HasRoom code.now rest }
         requires inside { IsInside self.old site.now }
+        requires runs { site.now.any_run ≡ true }
         ensures told { IfOk result (λ x. (t : Tree) × (S.grew sink.old sink.new (front_pieces rest.level t)
             × HeadTo self.old self.new site.now rest code.now x t)) }
         ensures fails { IfErr result (FailsHead self.old site.now rest code.now) }
         ensures stays { OnOk result (Stays self.old self.new) }
+        ensures runs { IfOk result (λ x. x.inner.any_run ≡ true) }
     {
         let mut ears = Ears::new(self.alloc, Around::Run(*site))?;
         let opened = self.read_front(site, rest, code, &mut ears, sink)?;
@@ -136,6 +139,7 @@ impl Progress {
     ) -> Result<(), LoadFault>
         requires room { RoomBy code.now rest.levels front.now.inside }
         requires inside { IsInside self.old front.now.inner }
+        requires runs { front.now.inner.any_run ≡ true }
         ensures told { OnOk result ((head : Tree) → span_inside head ≡ front.now.inside →
             (t : Tree) × ((ps : List Told) × ((pieces rest.level t ≡ front_pieces rest.level head ++ ps)
             × (S.grew sink.old sink.new ps × OpensTo self.old self.new front.now.inner rest.levels code.now head t)))) }
@@ -172,6 +176,7 @@ impl Progress {
     ) -> Result<Behind, LoadFault>
         requires room { HasRoom code.now rest }
         requires inside { IsInside self.old site.now }
+        requires runs { site.now.any_run ≡ true }
         ensures bounds { IfOk result (λ x. IsBehind rest x) }
         ensures told { IfOk result (λ x. (t : Tree) × (S.grew sink.old sink.new
             (line rest.level ∷ (pieces rest.level t ++ end_of_line ∷ []))
@@ -197,6 +202,7 @@ impl Progress {
     ) -> Result<(), LoadFault>
         requires room { HasRoom code.now rest }
         requires inside { IsInside self.old site.now }
+        requires runs { site.now.any_run ≡ true }
         ensures told { OnOk result ((ts : Trees) × (S.grew sink.old sink.new (line_pieces rest.level ts)
             × RunsAllTo self.old self.new site.now rest code.now ts)) }
         ensures fails { IfErr result (FailsTerms self.old site.now rest code.now) }

@@ -1,16 +1,17 @@
 //! The walk over a table whose code outside methods may run.
-ghost use Rattle.std.specs.Prelude.{◌≡◌, [], IfOk, OnOk, Ok, is_some, ◌&&◌, IfSome, option_map};
+ghost use Rattle.std.specs.Prelude.{◌≡◌, [], IfOk, OnOk, Some, is_some, not, ◌&&◌, ◌||◌, IfSome, option_map};
 ghost use Rattle.std.specs.Option.{option_copied};
 ghost use Rattle.std.specs.FinSet as set;
-ghost use Rattle.aml_namespace.specs.Namespace.{namespace_of, found};
+ghost use Rattle.aml_namespace.specs.Namespace.{namespace_of, found, declared_at};
 ghost use Rattle.aml_namespace.specs.Known.{StandsFor, StandsAt, path_at};
 ghost use Rattle.aml_space.specs.Below.{path_below};
 ghost use Rattle.aml_load.specs.Declaring.{Listed};
 ghost use Rattle.aml_load.specs.Running.{opened_at, object_at, scope_at};
 ghost use Rattle.aml_namespace.specs.Kinds.{kind_in};
-ghost use Rattle.aml_load.specs.Walking.{at_site, GivesIn, Holds, IsInside, Stays, AreBelow, IsPlain};
+ghost use Rattle.aml_load.specs.Walking.{at_site, GivesIn, Holds, IsInside, Stays, AreBelow, IsPlain, Walks};
+ghost use Rattle.aml_load.specs.Loading.{sure_here};
 ghost use Rattle.aml_load.specs.Runner.{IsFlat, IsSiteOf, Comes};
-ghost use Rattle.aml_load.specs.Front.{enters_as, head_enters};
+ghost use Rattle.aml_load.specs.Hearing.{enters_as, flat_by, head_enters};
 ghost use Rattle.aml_load.specs.HearingViews.{head_view};
 
 use crate::ears::{Head, Shape};
@@ -47,12 +48,12 @@ impl Site {
         })
     }
 
-    /// In the same scope, as surely as here if this holds.
-    fn also(&self, sure: bool) -> Site
-        ensures { result ≡ record self.now { sure = self.now.sure && sure } }
+    /// Inside a term that may not run.
+    fn in_block(&self) -> Site
+        ensures { result ≡ record self.now { sure = not self.now.any_run && self.now.sure } }
     {
         Site {
-            sure: self.sure && sure,
+            sure: !self.any_run && self.sure,
             ..*self
         }
     }
@@ -100,7 +101,18 @@ impl Progress {
         Ok(above.is_some())
     }
 
-    /// The path that a Scope opens. `ScopeMissing` where runs may differ.
+    /// Whether a name that leads nowhere in every run has no path that a Scope may open.
+    fn is_shut(&self, site: &Site, name: &Name) -> Result<bool, NoMemory>
+        ensures { (l : Listed) → StandsFor self.now.space l.entries → IfOk result (λ b. b ≡ (not site.now.any_run
+            || is_some (found (namespace_of l.entries) set.empty (path_at self.now.space site.now.scope) name.now))) }
+    {
+        if !site.any_run {
+            return Ok(true);
+        }
+        self.is_known(site, name)
+    }
+
+    /// The path that a Scope opens. `ScopeMissing` where there is none.
     #[tactic(auto, unfolding(crate::specs::Running::opened_at, crate::specs::Declaring::place_at))]
     fn opened_path<'n>(&self, site: &Site, name: Option<&'n Name>) -> Result<Below<'n>, LoadFault>
         ensures below { AreBelow self.now.space result }
@@ -117,7 +129,7 @@ impl Progress {
                 segs: name.segs.as_slice(),
             }),
             None => {
-                if self.is_known(site, name)? {
+                if self.is_shut(site, name)? {
                     let missing = SpaceFault::ScopeMissing(self.space.to_path(&path)?);
                     Err(LoadFault::Space(site.table, missing))
                 } else {
@@ -125,6 +137,19 @@ impl Progress {
                 }
             }
         }
+    }
+
+    /// Whether what stands inside an object is declared in every run, which declares this path.
+    fn is_sure_inside(&self, here: &Site, path: &Below<'_>) -> bool
+        ensures { (l : Listed) → StandsFor self.now.space l.entries → result
+            ≡ (sure_here (at_site self.now.space here.now) l.entries (path_below self.now.space.paths path.now)
+            && not (here.now.any_run && is_some (declared_at l.entries (path_below self.now.space.paths path.now)))) }
+    {
+        if !here.any_run {
+            return here.sure;
+        }
+        let declared = self.space.is_declared(path);
+        self.is_sure_here(here, path, None) && !declared
     }
 
     /// Declares an object, and opens its path.
@@ -140,11 +165,11 @@ impl Progress {
         ensures comes { Comes self.old self.new here.now result (λ f.
             object_at f (option_copied name.entry) (kind_in [] kind)) }
         ensures within { IfOk result (IsInside self.new) }
+        ensures runs { IfOk result (λ inner. inner.any_run ≡ here.now.any_run) }
         ensures stays { OnOk result (Stays self.old self.new) }
     {
         let path = self.own_path(here, name)?;
-        let declared = self.space.is_declared(&path);
-        let sure = self.is_sure_here(here, &path, None) && !declared;
+        let sure = self.is_sure_inside(here, &path);
         self.declare(here, &path, kind)?;
         here.under(self, &path, sure)
     }
@@ -155,33 +180,53 @@ impl Progress {
         requires { IsInside self.old here.now }
         ensures comes { Comes self.old self.new here.now result (λ f. scope_at f (option_copied name.entry)) }
         ensures within { IfOk result (IsInside self.new) }
+        ensures runs { IfOk result (λ inner. inner.any_run ≡ here.now.any_run) }
         ensures stays { OnOk result (Stays self.old self.new) }
     {
         self.expect_search(here, name);
         let path = self.opened_path(here, name)?;
-        let sure = here.sure && self.space.is_scope(&path);
+        let sure = here.sure && (!here.any_run || self.space.is_scope(&path));
         here.under(self, &path, sure)
     }
 }
 
-#[tactic(auto, unfolding(crate::specs::Front::enters_as, crate::specs::Hearing::enter_as))]
+#[tactic(auto, unfolding(crate::specs::Hearing::flat_by))]
 impl Progress {
-    /// Does what a term does by its head, with the span of its body, inside which no terms stand.
-    fn enter_heard_flat(
-        &mut self,
-        here: &Site,
-        head: &Head,
-        span: (u32, u32),
-    ) -> Result<Site, LoadFault>
-        requires inside { IsInside self.old here.now }
-        requires there { IsInside self.old head.now.site }
+    /// Declares what a term declares by its head, with the span of its body, inside which no terms stand.
+    fn declare_flat(&mut self, here: &Site, head: &Head, span: (u32, u32)) -> Result<(), LoadFault>
+        requires { IsInside self.old here.now }
+        ensures walks { Walks self.old self.new result (λ l. flat_by head.now.role
+            (head_view self.old.space head.now) (at_site self.old.space here.now) l span) }
+        ensures stays { OnOk result (Stays self.old self.new) }
+    {
+        match head.role {
+            Role::Method => self.declare_one_method(
+                here,
+                head.last(),
+                head.byte.unwrap_or(0),
+                span,
+            ),
+            Role::Alias => self.declare_one_alias(here, head.source.as_ref(), head.last()),
+            Role::External => self.declare_external(here, head.last(), head.byte.unwrap_or(0)),
+            Role::Fields => self.add_segments(here, head.units.as_slice()),
+            _ => Ok(()),
+        }
+    }
+}
+
+#[tactic(auto, unfolding(crate::specs::Hearing::enters_as))]
+impl Progress {
+    /// The same, and says that what stands inside stands where the term does.
+    fn enter_flat(&mut self, here: &Site, head: &Head, span: (u32, u32)) -> Result<Site, LoadFault>
+        requires { IsInside self.old here.now }
         ensures comes { IsFlat head.now.role → Comes self.old self.new here.now result (λ f.
             enters_as head.now.role (head_view self.old.space head.now) f span) }
         ensures within { IfOk result (IsInside self.new) }
+        ensures runs { IfOk result (λ inner. inner.any_run ≡ here.now.any_run) }
         ensures stays { OnOk result (Stays self.old self.new) }
     {
-        self.enter_plain(head, span)?;
-        Ok(here.also(true))
+        self.declare_flat(here, head, span)?;
+        Ok(*here)
     }
 
     /// Does what an opcode does by its head, with the span of its body.
@@ -191,42 +236,61 @@ impl Progress {
         head: &Head,
         span: (u32, u32),
     ) -> Result<Site, LoadFault>
-        requires inside { IsInside self.old here.now }
-        requires there { IsInside self.old head.now.site }
+        requires { IsInside self.old here.now }
         ensures comes { Comes self.old self.new here.now result (λ f.
             enters_as head.now.role (head_view self.old.space head.now) f span) }
         ensures within { IfOk result (IsInside self.new) }
+        ensures runs { IfOk result (λ inner. inner.any_run ≡ here.now.any_run) }
         ensures stays { OnOk result (Stays self.old self.new) }
     {
         match head.role {
             Role::Declares(object) => self.enter_object(here, head.last(), kind_of(object)),
             Role::Scope => self.enter_scope(here, head.last()),
-            Role::Guard | Role::Other => Ok(here.also(false)),
-            _ => self.enter_heard_flat(here, head, span),
+            Role::Guard | Role::Other => Ok(here.in_block()),
+            _ => self.enter_flat(here, head, span),
+        }
+    }
+}
+
+#[tactic(auto, unfolding(crate::specs::Hearing::head_enters, crate::specs::Hearing::enters_by))]
+impl Progress {
+    /// Does what a term does by its head, with the span of its body, and says where the terms inside it stand.
+    pub fn enter_head(
+        &mut self,
+        here: &Site,
+        head: &Head,
+        span: (u32, u32),
+    ) -> Result<Site, LoadFault>
+        requires { IsInside self.old here.now }
+        ensures comes { Comes self.old self.new here.now result (λ f.
+            head_enters (Some (head_view self.old.space head.now)) f span) }
+        ensures within { IfOk result (IsInside self.new) }
+        ensures runs { IfOk result (λ inner. inner.any_run ≡ here.now.any_run) }
+        ensures stays { OnOk result (Stays self.old self.new) }
+    {
+        match head.shape {
+            Shape::Call => Ok(*here),
+            _ => self.enter_operation(here, head, span),
         }
     }
 
-    /// Does what a term does of which this was heard, with the span of its body, and says where the terms inside it stand.
-    #[tactic(auto, unfolding(crate::specs::Front::head_enters, crate::specs::Front::enters_by))]
+    /// The same of what was heard of a term, if anything was.
     pub fn enter_heard(
         &mut self,
         here: &Site,
         head: Option<&Head>,
         span: (u32, u32),
     ) -> Result<Site, LoadFault>
-        requires inside { IsInside self.old here.now }
-        requires there { IfSome head (λ h. IsInside self.old h.now.site) }
+        requires { IsInside self.old here.now }
         ensures comes { Comes self.old self.new here.now result (λ f.
             head_enters (option_map (λ h. head_view self.old.space h.now) head.entry) f span) }
         ensures within { IfOk result (IsInside self.new) }
+        ensures runs { IfOk result (λ inner. inner.any_run ≡ here.now.any_run) }
         ensures stays { OnOk result (Stays self.old self.new) }
     {
         match head {
-            None => Ok(here.also(true)),
-            Some(head) => match head.shape {
-                Shape::Call => Ok(here.also(true)),
-                _ => self.enter_operation(here, head, span),
-            },
+            None => Ok(*here),
+            Some(head) => self.enter_head(here, head, span),
         }
     }
 }

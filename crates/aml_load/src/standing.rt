@@ -1,11 +1,10 @@
 //! The terms of a loaded set outside the methods' bodies, each where it stands.
-ghost use Rattle.std.specs.Prelude.{◌≡◌, ◌⊎◌, ◌++◌, ◌∷◌, ◌<◌, [], List, ℕ, Bool, Ok, IfOk, IfErr, OnOk, IfSome, length};
-ghost use Rattle.std.specs.Prelude.{option_map};
+ghost use Rattle.std.specs.Prelude.{◌≡◌, ◌⊎◌, ◌++◌, ◌∷◌, ◌<◌, [], List, ℕ, Bool, IfOk, IfErr, OnOk, length};
 ghost use Rattle.aml_code.specs.View.{node_view, nodes_view};
 ghost use Rattle.aml_namespace.specs.Namespace.{Entry};
 ghost use Rattle.aml_set.specs.Views.{trees_view};
 ghost use Rattle.aml_load.specs.Declaring.{Listed};
-ghost use Rattle.aml_load.specs.HearingViews.{Entered};
+ghost use Rattle.aml_load.specs.Runner.{Came};
 ghost use Rattle.aml_load.specs.Standing.{stands, set_stands};
 ghost use Rattle.aml_load.specs.Standings.{standings_view, AreStanding, Finds, set_declares, enters_at};
 ghost use Rattle.aml_load.specs.Standings.{walk, walk_within, walk_all, walk_tables, met, met_within, met_all, met_tables};
@@ -76,24 +75,17 @@ fn add_term<'a>(
 }
 
 impl Progress {
-    /// Declares what a term declares itself, and says where the terms inside it stand, if they declare.
-    fn enter_term(&mut self, site: &Site, term: &Node) -> Result<Option<Site>, LoadFault>
+    /// Declares what a term declares itself, and says where the terms inside it stand.
+    fn enter_term(&mut self, site: &Site, term: &Node) -> Result<Site, LoadFault>
         requires { IsInside self.old site.now }
-        ensures enters { (l : Listed) → Holds self.old l →
-            Entered self.new result (enters_at (at_site self.old.space site.now) l (node_view term.now)) }
-        ensures inside { IfOk result (λ inner. IfSome inner (IsInside self.new)) }
+        ensures enters { (l : Listed) → Holds self.old l → Came self.new site.now result
+            (enters_at (at_site self.old.space site.now) l (node_view term.now)) }
+        ensures inside { IfOk result (IsInside self.new) }
         ensures stays { OnOk result (Stays self.old self.new) }
     {
         let head = Head::of_term(self.alloc, site, term)?;
         let span = span_of(term);
-        if site.any_run {
-            let inner = self.enter_heard(site, head.as_ref(), span)?;
-            return Ok(Some(inner));
-        }
-        match head {
-            None => Ok(None),
-            Some(head) => self.enter_head(&head, span),
-        }
+        self.enter_heard(site, head.as_ref(), span)
     }
 }
 
@@ -113,32 +105,29 @@ fn find_term<'a>(
 {
     add_term(site, term, found)?;
     let inner = progress.enter_term(site, term)?;
-    find_inside(progress, inner, term, found)
+    find_inside(progress, &inner, term, found)
 }
 
-/// Finds the terms inside a term, which stand at this site, if they declare.
+/// Finds the terms inside a term, which stand at this site.
 #[cycle(find)]
 #[tactic(auto, unfolding(crate::specs::Standings::walk_inside, crate::specs::Standings::met_inside))]
 fn find_inside<'a>(
     progress: &mut Progress,
-    site: Option<Site>,
+    site: &Site,
     term: &'a Node,
     found: &mut Vec<StandingTerm<'a>>,
 ) -> Result<(), LoadFault>
-    requires { IfSome site (IsInside progress.old) }
+    requires { IsInside progress.old site.now }
     ensures finds { Finds progress.old progress.new found.old.items found.new.items result
-        (λ l. walk_within (option_map (at_site progress.old.space) site) l (node_view term.now))
-        (λ l. met_within (option_map (at_site progress.old.space) site) l (node_view term.now)) }
+        (λ l. walk_within (at_site progress.old.space site.now) l (node_view term.now))
+        (λ l. met_within (at_site progress.old.space site.now) l (node_view term.now)) }
     ensures stays { OnOk result (Stays progress.old progress.new) }
 {
-    match (site, term) {
-        (
-            Some(site),
-            Node::Op {
-                tail: Tail::Terms(terms),
-                ..
-            },
-        ) => find_terms(progress, &site, terms.as_slice(), found),
+    match term {
+        Node::Op {
+            tail: Tail::Terms(terms),
+            ..
+        } => find_terms(progress, site, terms.as_slice(), found),
         _ => Ok(()),
     }
 }

@@ -13,41 +13,21 @@ ghost use Rattle.aml_load.specs.Declaring.{Listed, plus, lead_of, target_of, pla
 ghost use Rattle.aml_load.specs.Declaring.{method_at, alias_at, external_at, units_at};
 ghost use Rattle.aml_load.specs.Loading.{method_entry, parent_of, sure_with, plain_entry};
 ghost use Rattle.aml_load.specs.Walking.{at_site, Gives, GivesIn, IsDeclared, Walks, IsInside, Stays, Holds, IsBelow, AreBelow, IsPlain};
-ghost use Rattle.aml_load.specs.Walking.{missing, root_at, source_path, source_paths, sure_of};
+ghost use Rattle.aml_load.specs.Walking.{root_at, source_path, source_paths, sure_of};
+ghost use Rattle.aml_space.specs.declared.faults.SpaceFault.TheVariants as AnyFault;
 ghost use Rattle.aml_load.specs.Groups.{AreKnown, uses_of};
 ghost use Rattle.aml_load.specs.Hearing.{with_more};
 
 use crate::faults::LoadFault;
 use crate::groups::{Group, add_groups};
 use crate::sites::Site;
-use aml_code::{Name, NoMemory, Path, Seg};
+use aml_code::{Name, NoMemory, Seg};
 use aml_set::Method;
 use aml_space::{Below, Kind, PathId, Space, SpaceFault};
 use std::alloc::Global;
 
 /// The most methods that a set of tables may have.
 const MAX_METHODS: usize = 1_048_576;
-
-/// What a name has to lead to.
-#[derive(Clone, Copy)]
-pub enum Sought {
-    /// What a Scope opens.
-    Scope,
-    /// What an Alias is declared of.
-    Source,
-}
-
-impl Sought {
-    /// The fault that it isn't there, at the path where the name is placed.
-    fn missing(self, path: Path) -> SpaceFault
-        ensures { result ≡ missing self path }
-    {
-        match self {
-            Sought::Scope => SpaceFault::ScopeMissing(path),
-            Sought::Source => SpaceFault::AliasMissing(path),
-        }
-    }
-}
 
 /// What the tables so far have made.
 #[derive(Drop)]
@@ -64,6 +44,7 @@ impl Progress {
     pub fn root_site(&self, table: usize, any_run: bool) -> Site
         ensures site { at_site self.now.space result ≡ root_at any_run table }
         ensures inside { IsInside self.now result }
+        ensures runs { result.any_run ≡ any_run }
     {
         Site {
             table,
@@ -134,16 +115,11 @@ impl Progress {
 
 #[tactic(auto, unfolding(crate::specs::Declaring::lead_at, crate::specs::Declaring::place_at))]
 impl Progress {
-    /// The path that a name leads to. `ScopeMissing` or `AliasMissing` where that is nothing.
-    pub fn led_path<'n>(
-        &self,
-        site: &Site,
-        name: Option<&'n Name>,
-        sought: Sought,
-    ) -> Result<Below<'n>, LoadFault>
+    /// The path that the source of an Alias leads to. `AliasMissing` where that is nothing.
+    fn led_path<'n>(&self, site: &Site, name: Option<&'n Name>) -> Result<Below<'n>, LoadFault>
         ensures below { AreBelow self.now.space result }
         ensures gives { GivesIn (path_below self.now.space.paths) self.now.space result (λ l.
-            lead_at (at_site self.now.space site.now) l.entries (option_copied name.entry) (missing sought)) }
+            lead_at (at_site self.now.space site.now) l.entries (option_copied name.entry) (λ p. AnyFault.AliasMissing p)) }
     {
         let Some(name) = name else {
             return Err(LoadFault::Space(site.table, SpaceFault::AboveRoot));
@@ -155,7 +131,7 @@ impl Progress {
                 segs: name.segs.as_slice(),
             }),
             None => {
-                let missing = sought.missing(self.space.to_path(&path)?);
+                let missing = SpaceFault::AliasMissing(self.space.to_path(&path)?);
                 Err(LoadFault::Space(site.table, missing))
             }
         }
@@ -382,7 +358,7 @@ impl Progress {
         ensures stays { OnOk result (Stays self.old self.new) }
     {
         self.expect_search(site, source);
-        let source = self.led_path(site, source, Sought::Source)?;
+        let source = self.led_path(site, source)?;
         self.declare_alias(site, name, &source)
     }
 

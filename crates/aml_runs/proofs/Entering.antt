@@ -26,12 +26,12 @@ use Rattle.aml_namespace.proofs.Finding.{found_holds}
 use Rattle.aml_namespace.proofs.Growing.{none_declared, opens_there, placed_unsure, leads_nowhere, leads_there}
 use Rattle.aml_namespace.proofs.Growing.{aims_alike}
 use Rattle.aml_load.specs.Declaring.{◌>>=◌, Listed, plus, byte_of, body_span, first_label, target_of, place_at, lead_at}
-use Rattle.aml_load.specs.Declaring.{entry_at, new_at, method_at, alias_at, external_at, units_at, lead_of, declare_as}
+use Rattle.aml_load.specs.Declaring.{entry_at, new_at, method_at, alias_at, external_at, units_at, lead_of}
 use Rattle.aml_load.specs.Declaring.{most_methods}
 use Rattle.aml_load.specs.Loading.{kind_of, parent_of, sure_here, sure_with, plain_entry, method_entry}
 use Rattle.aml_load.specs.Loading.{alias_entry, methods_of}
 use Rattle.aml_load.specs.declared.faults.LoadFault.TheVariants as loads
-use Rattle.aml_load.specs.Running.{Front, in_path, opened_by, opened_at, object_at, scope_at, enter_as}
+use Rattle.aml_load.specs.Running.{Front, opened_by, opened_at, object_at, scope_at, flat_at, enter_as}
 use Rattle.aml_load.proofs.Doing.{bound, value_is, run_site as site_at, front, is_flat}
 use Rattle.aml_runs.specs.TableRuns.{RunsInside, is_passed, with_path, gained, gained_at, path_in, found_in}
 use Rattle.aml_runs.specs.TableRuns.{units_gained, alias_gained, RunsObject, may_open, RunsScope, RunsAs, IsSelection}
@@ -112,8 +112,8 @@ module _ (t : ℕ) (s : List Seg) (b : Bool) (l : Listed) (n : List Entry) (sele
       by at.0 at.2 (subst (λ p. RunsObject inside n p k m) (value_is (path_in s name) _ at.0 at.1) ran)
     where
       by : (p : List Seg)
-          → (entry_at (site_at t s b) l p (plain_entry (site_at t s b) l.entries k p) >>= λ m. Ok (in_path (front t s b l) m p
-          (sure_here (site_at t s b) l.entries p && not (is_some (declared_at l.entries p))))) ≡ Ok inner
+          → (entry_at (site_at t s b) l p (plain_entry (site_at t s b) l.entries k p)
+          >>= λ m. Ok (front t p (sure_here (site_at t s b) l.entries p && not (is_some (declared_at l.entries p))) m)) ≡ Ok inner
           → RunsObject inside n (Some p) k m → Enters (roles.Declares o) t inside m inner
       by p is (inl (passed, same)) =
           let e = plain_entry (site_at t s b) l.entries k p in
@@ -338,7 +338,7 @@ module _ (t : ℕ) (s : List Seg) (l : Listed) (n : List Entry) (selects : IsSel
 
   pub enter_ran : (r : Role) (b : Bool) (m : List Entry) (x y : Tail) (inside : RunsInside) → field_names y ≡ field_names x
       → enter_as r (front t s b l) ps x ≡ Ok inner → RunsAs r inside s n ps y m → Enters r t inside m inner
-  unfolding enter_as declare_as
+  unfolding enter_as flat_at
   enter_ran (roles.Declares o) b m x y inside names is ran =
       object_ran t s b l n selects o (kind_of o) (last_label None ps) inside m inner is ran
   enter_ran roles.Scope b m x y inside names is ran = scope_ran t s b l n selects (last_label None ps) inside m inner is ran
@@ -382,7 +382,7 @@ module _ (t : ℕ) (s : List Seg) (l : Listed) (n : List Entry) (selects : IsSel
   flat_past k there selects = (s, k, sym there, selects)
 
   pub enter_past : (r : Role) (x : Tail) → enter_as r (front t s false l) ps x ≡ Ok inner → Passes t n inner
-  unfolding enter_as declare_as object_at scope_at entry_at method_at alias_at
+  unfolding enter_as flat_at object_at scope_at entry_at method_at alias_at
   enter_past (roles.Declares o) x is =
       let at = bound (place_at (site_at t s false) (last_label None ps)) _ inner is in
       let e = plain_entry (site_at t s false) l.entries (kind_of o) at.0 in

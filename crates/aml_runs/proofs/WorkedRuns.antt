@@ -19,10 +19,10 @@ use Rattle.aml_namespace.specs.Kinds.{Kind}
 use Rattle.aml_namespace.specs.declared.kinds.Kind.TheVariants as kinds
 use Rattle.aml_namespace.specs.Namespace.{Entry, declares}
 use Rattle.aml_load.specs.declared.faults.LoadFault.{LoadFault}
-use Rattle.aml_load.specs.Declaring.{Listed, place_at, entry_at, declare_as, method_at, new_at, alias_at, lead_at}
+use Rattle.aml_load.specs.Declaring.{Listed, place_at, entry_at, method_at, new_at, alias_at, lead_at}
 use Rattle.aml_load.specs.Declaring.{uses_at}
 use Rattle.aml_load.specs.Loading.{role_of, LoadsTo}
-use Rattle.aml_load.specs.Running.{entered_at, enter_as, object_at, scope_at, opened_at}
+use Rattle.aml_load.specs.Running.{entered_at, enter_as, flat_at, object_at, scope_at, opened_at}
 use Rattle.aml_load.specs.Tables.{StopsFor, load_at, tables_at, table_at, LoadsForward}
 use Rattle.aml_runs.specs.TableRuns.{IsRunOf}
 use Rattle.aml_runs.specs.Worked.{unsourced_code, unsourced_terms, unsourced_run, path, dev0_bar, new, terms_of}
@@ -95,7 +95,7 @@ Loads code ts m = load_at true false [] (code ∷ []) ≡ Ok (terms_of ts ∷ []
 loads : Loads early_code early_terms early_listed × Loads untaken_code untaken_terms untaken_listed
     × Loads left_code left_terms left_listed × Loads named_code named_terms named_listed
     × Loads unsourced_code unsourced_terms unsourced_listed × Loads aimed_code aimed_terms aimed_listed
-unfolding load_at tables_at table_at uses_at run_term_at run_terms_at run_span_at run_table_at segmented_at parts_at to_end_at opcode_at plain_at packed_at taken_at operation_at term_at read_at step_at little_at value_at length_at span_at segment_at segments_at form_at parents path_at name_at entered_at enter_as object_at scope_at opened_at place_at entry_at declare_as method_at new_at alias_at lead_at role_of row_of rows
+unfolding load_at tables_at table_at uses_at run_term_at run_terms_at run_span_at run_table_at segmented_at parts_at to_end_at opcode_at plain_at packed_at taken_at operation_at term_at read_at step_at little_at value_at length_at span_at segment_at segments_at form_at parents path_at name_at entered_at enter_as object_at scope_at opened_at place_at entry_at flat_at method_at new_at alias_at lead_at role_of row_of rows
 loads = (refl, refl, refl, refl, refl, refl)
 
 -- ---- Runs.

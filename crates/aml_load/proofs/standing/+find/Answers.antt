@@ -1,8 +1,9 @@
-use Rattle.std.proofs.Common.{◌≡◌, ◌∷◌, ◌++◌, ◌+◌, Ok, Result, drop, sym, ap, subst, ◌∙◌, option_map}
+use Rattle.std.proofs.Common.{◌≡◌, ◌∷◌, ◌++◌, ◌+◌, Ok, Result, drop, sym, ap, subst, ◌∙◌}
 use Rattle.std.proofs.lemmas.List.{drop_more}
 use Rattle.std.proofs.lemmas.Result.{err_from_is_err_and}
 use Rattle.aml_code.specs.View.{node_view, nodes_view}
 use Rattle.aml_load.specs.Declaring.{Listed}
+use Rattle.aml_load.specs.Runner.{front_at}
 use Rattle.aml_load.specs.Standing.{stands}
 use Rattle.aml_load.specs.Standings.{standings_view, Found, walk, walk_all, met, met_all, met_within}
 use Rattle.aml_load.specs.Tables.{Fails}
@@ -30,13 +31,13 @@ find_term-returns-clause-finds t c l h there =
     let after = c.find_inside.new.found.items in
     let all = c.in_ok-add_term.ensures.numbered old.space c.requires there in
     let stays = c.in_ok-inner.ensures.stays in
-    let came = c.in_ok-inner.ensures.enters l h in
-    let inner = option_map (at_site mid.space) c.in_ok-inner.inner in
+    let came = (c.in_ok-inner.ensures.enters l h).1 in
+    let inner = front_at (at_site mid.space c.in_ok-inner.inner) came.0 in
     let did = c.find_inside.ensures.finds came.0 came.1 (still_standing old.space mid.space stays found all) in
     let both = found_more old mid new before found after c.find_inside.result _ (stands site x) _ stays all (c.in_ok-add_term.ensures.found old.space) did in
-    subst (Found old new before after c.find_inside.result (walk site l x)) (sym (met_on site l x came.0 inner came.2))
-    (subst (λ (w : Result Listed LoadFault). Found old new before after c.find_inside.result w (stands site x ∷ met_within inner came.0 x))
-    (sym (walk_on site l x came.0 inner came.2)) both)
+    subst (Found old new before after c.find_inside.result (walk site l x)) (sym (met_on site l x inner came.2))
+    (subst (λ (w : Result Listed LoadFault). Found old new before after c.find_inside.result w (stands site x ∷ met_within inner.site came.0 x))
+    (sym (walk_on site l x inner came.2)) both)
 
 pub find_terms-returns-in_err-find_term-clause-finds : goal.find_terms-returns-in_err-find_term-clause-finds
 find_terms-returns-in_err-find_term-clause-finds t c l h there =

@@ -1,9 +1,10 @@
-use Rattle.std.proofs.Common.{◌≡◌, ◌∷◌, List, Option, Some, None, Result, Ok, refl, sym, ap, ◌∙◌}
+use Rattle.std.proofs.Common.{◌≡◌, ◌∷◌, List, Option, Some, None, Result, Ok, Err, refl, sym, ap, ◌∙◌}
 use Rattle.std.specs.Option.{option_map}
 use Rattle.aml_load.specs.Declaring.{◌>>=◌, Listed}
 use Rattle.aml_load.specs.Groups.{uses_of}
-use Rattle.aml_load.specs.Hearing.{Head, Heard, enter, entered_by, inside_by, with_more}
-use Rattle.aml_load.specs.HearingViews.{head_view, heard_by, finish_by}
+use Rattle.aml_load.specs.Hearing.{Head, Heard, enter, inside_by, terms, with_more}
+use Rattle.aml_load.specs.Running.{Front}
+use Rattle.aml_load.specs.HearingViews.{head_view, heard_by, entered_by, finish_by}
 use Rattle.aml_load.specs.Loading.{Where}
 use Rattle.aml_load.specs.Walking.{at_site}
 use Rattle.aml_load.specs.declared.faults.LoadFault.{LoadFault}
@@ -23,9 +24,24 @@ inside_is None l m o x is at e =
       around = entered_by (both i).1 ∷ x.around;
     })
 inside_is (Some h) l m o x is at e =
-    let next : Listed × Option Where → Result Heard LoadFault =
-    λ y. Ok (record { listed = y.0; term = None; around = entered_by y.1 ∷ x.around }) in
-    ap (λ (l : Listed). enter h l (0, 0) >>= next) at ∙ ap (λ (r : Result (Listed × Option Where) LoadFault). r >>= next) e
+    ap (λ (l : Listed). enter h l (0, 0) >>= next) at ∙ by (enter h l (0, 0)) e
+  where
+    next : Front → Result Heard LoadFault
+    next f = Ok (record { listed = f.listed; term = None; around = terms f.site ∷ x.around })
+
+    pair : Front → Listed × Option Where
+    pair f = (f.listed, Some f.site)
+
+    sited : Front → Result (Listed × Option Where) LoadFault
+    sited f = Ok (pair f)
+
+    by : (r : Result Front LoadFault) → (r >>= sited) ≡ Ok (m, o)
+        → (r >>= next) ≡ Ok (record { listed = m; term = None; around = entered_by o ∷ x.around })
+    by (Ok f) e =
+        let whole : Listed × Option Where = (m, o) in
+        let both : pair f ≡ whole = cc in
+        λ i. Ok (record { listed = (both i).0; term = None; around = entered_by (both i).1 ∷ x.around })
+    by (Err d) e = absurd cc
 
 pub returns-clause-hears : goal.returns-clause-hears
 returns-clause-hears c =

@@ -52,7 +52,7 @@ pub tell_inside-tell_terms-requires : goal.tell_inside-tell_terms-requires
 tell_inside-tell_terms-requires g t c κs within =
     let room = subst (RoomBy c.args.code.now c.args.rest.levels) c.in-Some.is c.requires.room in
     let some = room.0 in
-    (search rules, (search rules, (room.1 c.deeper.result, c.requires.inside)))
+    (search rules, (search rules, (room.1 c.deeper.result, (c.requires.inside, c.requires.runs))))
 
 pub tell_inside-returns-in_ok-tell-in-Some-2-clause-told : goal.tell_inside-returns-in_ok-tell-in-Some-2-clause-told
 tell_inside-returns-in_ok-tell-in-Some-2-clause-told g t c = λ h same.
@@ -90,7 +90,7 @@ tell_line-tell_inside-requires g t c κs within =
         search rules,
         (
           subst (RoomBy c.args.code.now c.args.rest.levels) (sym fronts.inside) (room_in c.args.code.now c.args.rest told.0 _ c.requires.room step.there),
-          fronts.within,
+          (fronts.within, c.in_ok-front.ensures.runs),
         ),
       ),
     )
@@ -198,7 +198,7 @@ tell_terms-tell_line-requires g t c κs within = (
     search rules,
     (
       c.loop-turn.invariant.0,
-      still_among c.args.self.now.space c.loop-turn.self.space c.loop-turn.invariant.5 c.args.site.now.scope c.requires.inside,
+      (still_among c.args.self.now.space c.loop-turn.self.space c.loop-turn.invariant.5 c.args.site.now.scope c.requires.inside, c.requires.runs),
     ),
   ),
 )

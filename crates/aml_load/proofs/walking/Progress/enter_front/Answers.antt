@@ -1,9 +1,8 @@
 use Rattle.std.proofs.Common.{◌≡◌, Bool, cond, List, None, option_map, refl, sym, ap, subst, ◌∙◌}
 use Rattle.aml_namespace.specs.Known.{Known}
 use Rattle.aml_load.specs.Declaring.{Use, with_uses}
-use Rattle.aml_load.specs.Front.{head_enters}
 use Rattle.aml_load.specs.Groups.{uses_of}
-use Rattle.aml_load.specs.Hearing.{with_more}
+use Rattle.aml_load.specs.Hearing.{head_enters, with_more}
 use Rattle.aml_load.specs.HearingViews.{head_view}
 use Rattle.aml_load.specs.Runner.{front_at}
 use Rattle.aml_load.specs.Walking.{KeepsPaths, at_site}

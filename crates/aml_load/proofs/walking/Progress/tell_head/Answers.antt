@@ -22,7 +22,7 @@ returns-clause-told g c =
     let opened = c.in_ok-opened.opened in
     let made = c.in_ok-ears.ensures in
     let heard = heard_front old.space c.in_ok-ears.ears c.read_front.new.ears site c.args.rest.level told.0 (made.head, (made.around, made.uses)) told.1.1.0
-    opened told.1.0.tail in
+    opened c.requires.runs told.1.0.tail in
     let comes = subst (λ (p : Progress). (t : Tree) → IsHeard p.space site c.read_front.new.ears opened t → IfOk c.enter_front.result (Fronts p c.enter_front.new.self site opened t))
     c.in_ok-opened.ensures.same c.enter_front.ensures.comes in
     if_ok_by c.enter_front.result (λ x fronts. (told.0, (told.1.1.1, (opened, (told.1.0, fronts))))) (comes told.0 heard)
@@ -35,7 +35,7 @@ returns-clause-fails g c =
     let opened = c.in_ok-opened.opened in
     let made = c.in_ok-ears.ensures in
     let heard = heard_front old.space c.in_ok-ears.ears c.read_front.new.ears site c.args.rest.level told.0 (made.head, (made.around, made.uses)) told.1.1.0
-    opened told.1.0.tail in
+    opened c.requires.runs told.1.0.tail in
     let fails = subst (λ (p : Progress). (t : Tree) → IsHeard p.space site c.read_front.new.ears opened t → IfErr c.enter_front.result (FailsEntering p site t))
     c.in_ok-opened.ensures.same c.enter_front.ensures.fails in
     if_err_by c.enter_front.result (λ e entering l h.
